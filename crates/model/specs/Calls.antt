@@ -1,0 +1,153 @@
+-- What each call answers, and what the places lent to it hold afterwards. For each answer that is an enum, the paper's
+-- number and values for each of its cases.
+use Prim.Native.Nat.{ℕ, zero, suc, _-_}
+use mathlib.Core.Bool.{Bool, true, false, cond}
+use mathlib.Core.List.{List, [], _∷_, _++_, map}
+use mathlib.Core.Option.{Option, none, some, Option·getD}
+use lib.Dec.{ltb}
+use lib.ListN.{length, drop, replicate}
+use Rattle.model.specs.Spans.{Span, nowhere}
+use Rattle.model.specs.Log.{recordLength, recordBytes, records}
+use Rattle.model.specs.Segments.{segments}
+use Rattle.model.specs.Split.{Reduced, reduced, mostRows}
+use Rattle.model.specs.Slot.{slotLength, slotBytes, slotKind, slotCount, slotError, slotRow, slotRows, valueIn}
+use Rattle.model.specs.Questions.{Question, Outcome, refused, accepted, outcome, lent}
+use Rattle.model.specs.Questions.{writeQuestions, segmentsQuestions, queryQuestions, slotQuestions, lookupQuestions}
+use Rattle.model.specs.declared.Record.{Record}
+use Rattle.model.specs.declared.Segment.{Segment}
+use Rattle.model.specs.declared.Row.{Row}
+use Rattle.model.specs.declared.Query.{Query}
+use Rattle.model.specs.declared.RecordAnswer.{RecordAnswer}
+use Rattle.model.specs.declared.RecordAnswer.the-variants as record-answer
+use Rattle.model.specs.declared.SegmentsAnswer.{SegmentsAnswer}
+use Rattle.model.specs.declared.SegmentsAnswer.the-variants as segments-answer
+use Rattle.model.specs.declared.QueryAnswer.{QueryAnswer}
+use Rattle.model.specs.declared.QueryAnswer.the-variants as query-answer
+use Rattle.model.specs.declared.ReadAnswer.{ReadAnswer}
+use Rattle.model.specs.declared.ReadAnswer.the-variants as read-answer
+use Rattle.model.specs.declared.Step.{Step}
+use Rattle.model.specs.declared.Step.the-variants as step-answer
+use Rattle.model.specs.declared.LookupAnswer.{LookupAnswer}
+use Rattle.model.specs.declared.LookupAnswer.the-variants as lookup-answer
+
+-- the code's structs as spans, and back
+unfoldable pub recordSpan : Record → Span ℕ
+recordSpan r = record { group = r .group; first = r .first; last = r .last; value = r .load }
+
+unfoldable pub segmentOf : Span ℕ → Segment
+segmentOf s = record { group = s .group; first = s .first; last = s .last; value = s .value }
+
+unfoldable pub rowOfSpan : Span ℕ → Row
+rowOfSpan s = record { group = s .group; first = s .first; last = s .last; value = s .value }
+
+unfoldable pub rowSpan : Row → Span ℕ
+rowSpan r = record { group = r .group; first = r .first; last = r .last; value = r .value }
+
+-- The record writer: 0 and nothing more where it has written.
+
+unfoldable pub recordCase : RecordAnswer → Outcome (Unit {0})
+recordCase record-answer.Written = accepted tt
+recordCase (record-answer.Refused r) = refused (r .question) (r .index)
+
+unfoldable pub writeOutcome : Span ℕ → ℕ → Outcome (Unit {0})
+writeOutcome r room = outcome (writeQuestions r room) tt
+
+unfoldable pub writtenBuffer : Span ℕ → List ℕ → List ℕ
+writtenBuffer r buffer = lent (writeQuestions r (length buffer)) (recordBytes r ++ drop recordLength buffer) buffer
+
+-- The segment call: the number of segments.
+
+unfoldable pub segmentsCase : SegmentsAnswer → Outcome ℕ
+segmentsCase (segments-answer.Found n) = accepted n
+segmentsCase (segments-answer.Refused r) = refused (r .question) (r .index)
+
+unfoldable pub logSegments : ℕ → List ℕ → List (Span ℕ)
+logSegments kind log = segments kind (records log)
+
+unfoldable pub segmentsOutcome : ℕ → List ℕ → ℕ → Outcome ℕ
+segmentsOutcome kind log room = outcome (segmentsQuestions kind log room) (length (logSegments kind log))
+
+unfoldable pub filledList : ℕ → List ℕ → List Segment → List Segment
+filledList kind log list =
+    lent (segmentsQuestions kind log (length list))
+    (map segmentOf (logSegments kind log) ++ drop (length (logSegments kind log)) list)
+    list
+
+-- The query: rows, error and cuts weighed.
+
+pub record Counts : Type 0 where
+  pub rows : ℕ
+  pub error : ℕ
+  pub weighed : ℕ
+
+unfoldable pub queryCase : QueryAnswer → Outcome Counts
+queryCase (query-answer.Written rows error weighed) =
+    accepted (record { rows = rows; error = error; weighed = weighed })
+queryCase (query-answer.Refused r) = refused (r .question) (r .index)
+
+-- the paper's answer to a query, of 0 rows where there is none
+unfoldable pub answerOf : Query → List ℕ → Reduced
+answerOf q log =
+    Option·getD (reduced (q .bound) (logSegments (q .kind) log)) (record { rows = []; error = 0; weighed = 0 })
+
+unfoldable pub countsOf : Reduced → Counts
+countsOf r = record { rows = length (r .rows); error = r .error; weighed = r .weighed }
+
+unfoldable pub queryOutcome : Query → List ℕ → ℕ → Outcome Counts
+queryOutcome q log room = outcome (queryQuestions q log room) (countsOf (answerOf q log))
+
+unfoldable pub querySlot : Query → List ℕ → List ℕ → List ℕ
+querySlot q log slot =
+    lent (queryQuestions q log (length slot))
+    (slotBytes (q .kind) ((answerOf q log) .error) ((answerOf q log) .rows) ++ drop slotLength slot)
+    slot
+
+-- The reader: kind, error and row count, and the rows beside them.
+
+pub record Header : Type 0 where
+  pub kind : ℕ
+  pub error : ℕ
+  pub rows : ℕ
+
+unfoldable pub readCase : ReadAnswer → Outcome Header
+readCase (read-answer.Slot kind error rows) = accepted (record { kind = kind; error = error; rows = rows })
+readCase (read-answer.Refused r) = refused (r .question) (r .index)
+
+unfoldable pub readOutcome : List ℕ → Outcome Header
+readOutcome slot =
+    outcome (slotQuestions slot)
+    (record { kind = slotKind slot; error = slotError slot; rows = slotCount slot })
+
+-- the rows read, none in a refusal
+unfoldable pub readRows : List ℕ → List (Span ℕ)
+readRows slot = lent (slotQuestions slot) (slotRows slot) []
+
+-- the 64 places for rows: those read, then rows of zeros
+unfoldable pub readPlaces : List ℕ → List (Span ℕ)
+readPlaces slot = readRows slot ++ replicate (mostRows - length (readRows slot)) nowhere
+
+-- The walk by slot and number: a row, or none for 'end'; and the number of the next row, unchanged at the end and in a
+-- refusal.
+
+unfoldable pub stepCase : Step → Outcome (Option (Span ℕ))
+stepCase (step-answer.Found r) = accepted (some (rowSpan r))
+stepCase step-answer.End = accepted none
+stepCase (step-answer.Refused r) = refused (r .question) (r .index)
+
+unfoldable pub stepOutcome : List ℕ → ℕ → Outcome (Option (Span ℕ))
+stepOutcome slot number =
+    outcome (slotQuestions slot) (cond (ltb number (slotCount slot)) (some (slotRow slot number)) none)
+
+unfoldable pub stepNext : List ℕ → ℕ → ℕ
+stepNext slot number =
+    lent (slotQuestions slot) (cond (ltb number (slotCount slot)) (suc number) number) number
+
+-- Lookup: a row value, or none for 'uncovered'.
+
+unfoldable pub lookupCase : LookupAnswer → Outcome (Option ℕ)
+lookupCase (lookup-answer.Value v) = accepted (some v)
+lookupCase lookup-answer.Uncovered = accepted none
+lookupCase (lookup-answer.Refused r) = refused (r .question) (r .index)
+
+unfoldable pub lookupOutcome : List ℕ → ℕ → ℕ → Outcome (Option ℕ)
+lookupOutcome slot group frame = outcome (lookupQuestions slot group) (valueIn (slotRows slot) group frame)

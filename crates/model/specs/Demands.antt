@@ -1,0 +1,161 @@
+-- What the tool owes its user, as statements about the definitions. The proofs are in the crate `theory`; the calls of the
+-- tool promise to answer as the definitions do, so that each statement is one about the calls.
+use Prim.Native.Nat.{ℕ, zero, suc, _+_, _*_, _^_, _≤_, _<_}
+use mathlib.Core.Bool.{Bool, true, false}
+use mathlib.Core.List.{List, [], _∷_, _++_, map, List·Memᴰ}
+use mathlib.Core.Logic.{_⊎_, _↔_}
+use mathlib.Core.Option.{Option, none, some}
+use mathlib.Core.Path.{_≡_}
+use lib.IntN.{ℤ, pos}
+use lib.ListN.{length, getD, take}
+use Rattle.model.specs.Common.{sumOf}
+use Rattle.model.specs.Spans.{Span, spanLength, adjacent}
+use Rattle.model.specs.Log.{records, value}
+use Rattle.model.specs.Blocks.{segmentAt}
+use Rattle.model.specs.Split.{Reduced, errorOf, gapBelow, runs, rowsOf, mostRows}
+use Rattle.model.specs.Reductions.{BestWithin, FewestWithin, reductionError}
+use Rattle.model.specs.Slot.{slotLength, slotBytes}
+use Rattle.model.specs.Questions.{Question, Outcome, refused, accepted, kindKnown, rowKnown, follows}
+use Rattle.model.specs.Questions.{logQuestions, orderQuestions, writeQuestions, segmentsQuestions, queryQuestions, slotQuestions, lookupQuestions, mostSegments}
+use Rattle.model.specs.Calls.{Counts, Header, writeOutcome, writtenBuffer, segmentsOutcome, filledList, logSegments, queryOutcome, querySlot, answerOf, countsOf, readOutcome, readRows, stepOutcome, stepNext, lookupOutcome}
+use Rattle.model.specs.Fitting.{Fits, hits, due, squaredError, WithinShare, Exceeds}
+use Rattle.model.specs.declared.Bound.{Bound}
+use Rattle.model.specs.declared.Bound.the-variants.{Rows, Share}
+use Rattle.model.specs.declared.Query.{Query}
+use Rattle.model.specs.declared.Segment.{Segment}
+
+-- Demand 1. Every function of the tool is proved to end without fault; what is left to say is what a refusal is.
+
+abbrev pub AllPass : List Question → Type 0
+AllPass questions = (q : Question) → List·Memᴰ q questions → q .passed ≡ true
+
+-- the first question that is answered 'no' has this number and index
+pub record FirstNo (questions : List Question) (number index : ℕ) : Type 0 where
+  pub before : List Question
+  pub failed : Question
+  pub after : List Question
+  pub parts : questions ≡ before ++ (failed ∷ after)
+  pub passed : AllPass before
+  pub denied : failed .passed ≡ false
+  pub numbered : failed .number ≡ number
+  pub indexed : failed .index ≡ index
+
+-- a call with these questions: it is refused with its first 'no', and then what was lent is as it was; it is accepted where
+-- every question is passed
+pub record Asks {A B : Type 0} (questions : List Question) (says : Outcome A) (was is : B) : Type 0 where
+  pub refusal : (number index : ℕ) → says ≡ refused number index → FirstNo questions number index × (is ≡ was)
+  pub acceptance : (a : A) → says ≡ accepted a → AllPass questions
+
+pub record Demand1 : Type 0 where
+  pub write : (r : Span ℕ) (buffer : List ℕ)
+      → Asks (writeQuestions r (length buffer)) (writeOutcome r (length buffer)) buffer (writtenBuffer r buffer)
+  pub segments : (kind : ℕ) (log : List ℕ) (list : List Segment)
+      → Asks (segmentsQuestions kind log (length list)) (segmentsOutcome kind log (length list)) list
+      (filledList kind log list)
+  pub query : (q : Query) (log slot : List ℕ)
+      → Asks (queryQuestions q log (length slot)) (queryOutcome q log (length slot)) slot (querySlot q log slot)
+  pub read : (slot : List ℕ) → Asks (slotQuestions slot) (readOutcome slot) slot slot
+  pub step : (slot : List ℕ) (number : ℕ)
+      → Asks (slotQuestions slot) (stepOutcome slot number) number (stepNext slot number)
+  pub lookup : (slot : List ℕ) (group frame : ℕ)
+      → Asks (lookupQuestions slot group) (lookupOutcome slot group frame) slot slot
+
+-- Demand 2.
+
+-- one span stands before another: by group, then by first frame, with no frame in common
+abbrev pub Before : Span ℕ → Span ℕ → Type 0
+Before s t = (s .group < t .group) ⊎ ((s .group ≡ t .group) × (s .last < t .first))
+
+-- the spans are the longest stretches of covered frames of one group with equal value, in order
+pub record Segmentation (val : ℕ → ℕ → Option ℕ) (segs : List (Span ℕ)) : Type 0 where
+  pub ordered : (s : Span ℕ) → List·Memᴰ s segs → s .first ≤ s .last
+  pub constant : (s : Span ℕ) → List·Memᴰ s segs → (f : ℕ) → s .first ≤ f → f ≤ s .last
+      → val (s .group) f ≡ some (s .value)
+  pub exact : (g f : ℕ) → hits segs g f ≡ due (val g f)
+  pub sorted : (i : ℕ) → suc i < length segs → Before (segmentAt segs i) (segmentAt segs (suc i))
+  pub longest : (i : ℕ) → suc i < length segs → adjacent (segmentAt segs i) (segmentAt segs (suc i)) ≡ true
+      → (segmentAt segs i) .value ≡ (segmentAt segs (suc i)) .value → ⊥
+
+-- the rows and error of a reduction with these cuts
+pub record Cut (segs : List (Span ℕ)) (a : Reduced) (cuts : List ℕ) : Type 0 where
+  pub rows : a .rows ≡ rowsOf (segmentAt segs) (length segs) cuts
+  pub error : a .error ≡ reductionError (errorOf segs) (length segs) cuts
+
+-- the reduction that a bound asks for, of these segments
+abbrev pub Reduces : Bound → List (Span ℕ) → List ℕ → Type 0
+Reduces (Rows c) segs cuts = BestWithin (errorOf segs) (gapBelow segs) (length segs) c cuts
+Reduces (Share p) segs cuts = FewestWithin (errorOf segs) (gapBelow segs) (length segs) p (runs segs) cuts
+
+-- what a slot can hold
+pub record Storable (kind error : ℕ) (rows : List (Span ℕ)) : Type 0 where
+  pub known : kindKnown kind ≡ true
+  pub error64 : error < 2 ^ 64
+  pub count : length rows ≤ mostRows
+  pub rowsKnown : (r : Span ℕ) → List·Memᴰ r rows → (rowKnown r ≡ true) × (r .last < 2 ^ 16)
+  pub sorted : (i : ℕ) → suc i < length rows → follows (segmentAt rows (suc i)) (segmentAt rows i) ≡ true
+
+abbrev pub Bytes : List ℕ → Type 0
+Bytes bytes = (i : ℕ) → getD bytes i 0 < 256
+
+-- the slot is read to this kind, error and rows
+pub record Reads (slot : List ℕ) (kind error : ℕ) (rows : List (Span ℕ)) : Type 0 where
+  pub header : readOutcome slot ≡ accepted (record { kind = kind; error = error; rows = length rows })
+  pub body : readRows slot ≡ rows
+
+pub record Demand2 : Type 0 where
+  pub segmentation : (kind : ℕ) (log : List ℕ) → Segmentation (value kind (records log)) (logSegments kind log)
+  pub count : (kind : ℕ) (log : List ℕ) → AllPass (logQuestions log) → length (logSegments kind log) ≤ mostSegments
+  pub conserved : (log : List ℕ) → Bytes log → AllPass (logQuestions log)
+      → sumOf (λ s. spanLength s * s .value) (logSegments 0 log)
+      ≡ sumOf (λ r. spanLength r * r .value) (records log)
+  pub reduction : (q : Query) (log : List ℕ) (room : ℕ) (counts : Counts) → queryOutcome q log room ≡ accepted counts
+      → (cuts : List ℕ) × Cut (logSegments (q .kind) log) (answerOf q log) cuts
+      × Reduces (q .bound) (logSegments (q .kind) log) cuts × (countsOf (answerOf q log) ≡ counts)
+  pub written : (q : Query) (log slot : List ℕ) (counts : Counts) → queryOutcome q log (length slot) ≡ accepted counts
+      → Reads (querySlot q log slot) (q .kind) ((answerOf q log) .error) ((answerOf q log) .rows)
+  pub roundTrip : (kind error : ℕ) (rows : List (Span ℕ)) (rest : List ℕ) → Storable kind error rows
+      → Reads (slotBytes kind error rows ++ rest) kind error rows
+  pub layout : (slot : List ℕ) (header : Header) → Bytes slot → readOutcome slot ≡ accepted header
+      → take slotLength slot ≡ slotBytes (header .kind) (header .error) (readRows slot)
+
+-- Demand 3.
+
+-- rows as a list of rows that hold whole numbers
+unfoldable pub whole : Span ℕ → Span ℤ
+whole r = record { group = r .group; first = r .first; last = r .last; value = pos (r .value) }
+
+-- these rows are best among the fitting lists of at most c rows
+pub record BestOfLimit (val : ℕ → ℕ → Option ℕ) (c error : ℕ) (rows : List (Span ℤ)) : Type 0 where
+  pub fits : Fits val rows
+  pub count : length rows ≤ c
+  pub squares : squaredError val rows ≡ error
+  pub least : (other : List (Span ℤ)) → Fits val other → length other ≤ c → error ≤ squaredError val other
+  pub fewest : (other : List (Span ℤ)) → Fits val other → length other ≤ c → squaredError val other ≡ error
+      → length rows ≤ length other
+
+-- these rows are within the share, best among the fitting lists of as many rows, and fewer do not do
+pub record BestOfShare (val : ℕ → ℕ → Option ℕ) (p error : ℕ) (rows : List (Span ℤ)) : Type 0 where
+  pub fits : Fits val rows
+  pub squares : squaredError val rows ≡ error
+  pub met : WithinShare val p rows
+  pub least : (other : List (Span ℤ)) → Fits val other → length other ≡ length rows → error ≤ squaredError val other
+  pub fewest : (other : List (Span ℤ)) → Fits val other → length other < length rows → Exceeds val p other
+
+abbrev pub BestRows : Bound → (ℕ → ℕ → Option ℕ) → ℕ → List (Span ℤ) → Type 0
+BestRows (Rows c) val error rows = BestOfLimit val c error rows
+BestRows (Share p) val error rows = BestOfShare val p error rows
+
+-- no list of rows does
+abbrev pub NoRows : Bound → (ℕ → ℕ → Option ℕ) → Type 0
+NoRows (Rows c) val = (rows : List (Span ℤ)) → Fits val rows → length rows ≤ c → ⊥
+NoRows (Share p) val = (rows : List (Span ℤ)) → Fits val rows → length rows ≤ mostRows → Exceeds val p rows
+
+pub record Demand3 : Type 0 where
+  -- the slot of an accepted query is read to rows and an error that are the paper's answer and best
+  pub best : (q : Query) (log slot : List ℕ) (counts : Counts) → queryOutcome q log (length slot) ≡ accepted counts
+      → (error : ℕ) × (rows : List (Span ℕ)) × Reads (querySlot q log slot) (q .kind) error rows
+      × (error ≡ (answerOf q log) .error) × (rows ≡ (answerOf q log) .rows)
+      × BestRows (q .bound) (value (q .kind) (records log)) error (map whole rows)
+  -- 'too few rows' is said exactly where no rows do
+  pub tooFew : (q : Query) (log slot : List ℕ) → slotLength ≤ length slot → AllPass (orderQuestions q log)
+      → (queryOutcome q log (length slot) ≡ refused 10 0) ↔ NoRows (q .bound) (value (q .kind) (records log))

@@ -1,0 +1,13 @@
+-- The paper as definitions, in its order. A visitor begins with `Demands`, which states what the tool owes its user.
+pub mod Common
+pub mod Spans
+pub mod Log
+pub mod Segments
+pub mod Blocks
+pub mod Split
+pub mod Reductions
+pub mod Slot
+pub mod Questions
+pub mod Calls
+pub mod Fitting
+pub mod Demands

@@ -1,0 +1,59 @@
+-- From bytes to records, and from records to the values of frames.
+use Prim.Native.Nat.{ℕ, zero, suc, _+_, _*_, _/_, min, max}
+use mathlib.Core.Bool.{Bool, true, false, _&&_, cond}
+use mathlib.Core.List.{List, [], _∷_, _++_, foldr}
+use mathlib.Core.Option.{Option, none, some}
+use lib.Dec.{ltb}
+use lib.ListN.{length, getD}
+use Rattle.model.specs.Common.{listFrom, numberAt, bytesOf}
+use Rattle.model.specs.Spans.{Span, groupCount, frameCount, meets}
+
+-- a record is 9 bytes: the mark 4C 44, group, first frame, last frame and load
+unfoldable pub recordLength : ℕ
+recordLength = 9
+
+unfoldable pub recordBytes : Span ℕ → List ℕ
+recordBytes r = 0x4C ∷ 0x44 ∷ r .group ∷ (bytesOf 2 (r .first) ++ bytesOf 2 (r .last) ++ bytesOf 2 (r .value))
+
+-- the record whose bytes begin at place `at`
+unfoldable pub recordAt : List ℕ → ℕ → Span ℕ
+recordAt bytes at =
+    record {
+      group = getD bytes (at + 2) 0;
+      first = numberAt 2 bytes (at + 3);
+      last = numberAt 2 bytes (at + 5);
+      value = numberAt 2 bytes (at + 7);
+    }
+
+unfoldable pub recordCount : List ℕ → ℕ
+recordCount log = length log / recordLength
+
+-- the records of a log, each with its load as value
+unfoldable pub records : List ℕ → List (Span ℕ)
+records log = listFrom 0 (recordCount log) (λ i. recordAt log (recordLength * i))
+
+-- the loads of the records of group g that contain some frame of a to b
+unfoldable pub meeting : List (Span ℕ) → ℕ → ℕ → ℕ → List ℕ
+meeting [] g a b = []
+meeting (r ∷ rs) g a b = cond (meets r g a b) (r .value ∷ meeting rs g a b) (meeting rs g a b)
+
+unfoldable pub sum : List ℕ → ℕ
+sum xs = foldr _+_ 0 xs
+
+-- one value from the loads x ∷ xs, by the kind: 0 their sum, 1 their count, 2 the least, 3 the greatest.
+-- Other kinds are refused before a value is asked for.
+unfoldable pub aggregate : ℕ → ℕ → List ℕ → ℕ
+aggregate zero x xs = x + sum xs
+aggregate (suc zero) x xs = suc (length xs)
+aggregate (suc (suc zero)) x xs = foldr min x xs
+aggregate (suc (suc (suc zero))) x xs = foldr max x xs
+aggregate (suc (suc (suc (suc k)))) x xs = 0
+
+-- no load, no value
+unfoldable pub aggregated : ℕ → List ℕ → Option ℕ
+aggregated kind [] = none
+aggregated kind (x ∷ xs) = some (aggregate kind x xs)
+
+-- the value of frame f of group g: none where the frame is not covered, and none where there is no such group or frame
+unfoldable pub value : ℕ → List (Span ℕ) → ℕ → ℕ → Option ℕ
+value kind rs g f = cond (ltb g groupCount && ltb f frameCount) (aggregated kind (meeting rs g f f)) none

@@ -1,0 +1,143 @@
+-- The questions, in the paper's order. A call's questions are a list; the first that is answered 'no' refuses the call.
+use Prim.Native.Nat.{ℕ, zero, suc, _+_, _-_, _*_, _%_}
+use mathlib.Core.Bool.{Bool, true, false, _&&_, _||_, cond}
+use mathlib.Core.List.{List, [], _∷_, _++_}
+use lib.Dec.{leb, ltb, eqb}
+use lib.ListN.{length, getD}
+use Rattle.model.specs.Common.{isSome}
+use Rattle.model.specs.Spans.{Span}
+use Rattle.model.specs.Log.{recordLength, recordAt, recordCount, records}
+use Rattle.model.specs.Segments.{segments}
+use Rattle.model.specs.Split.{mostRows, countFor}
+use Rattle.model.specs.Slot.{slotLength, rowPlace, slotKind, slotCount, slotRow}
+use Rattle.model.specs.declared.Bound.{Bound}
+use Rattle.model.specs.declared.Bound.the-variants.{Rows, Share}
+use Rattle.model.specs.declared.Query.{Query}
+
+pub record Question : Type 0 where
+  pub number : ℕ
+  pub index : ℕ
+  pub passed : Bool
+
+unfoldable pub ask : ℕ → ℕ → Bool → Question
+ask number index passed = record { number = number; index = index; passed = passed }
+
+-- what a call says: the number and index of its first 'no', or what it gives
+pub data Outcome (A : Type 0) : Type 0 where
+  refused : ℕ → ℕ → Outcome A
+  accepted : A → Outcome A
+
+unfoldable pub outcome : {A : Type 0} → List Question → A → Outcome A
+outcome [] a = accepted a
+outcome (q ∷ qs) a = cond (q .passed) (outcome qs a) (refused (q .number) (q .index))
+
+-- what is lent to a call holds afterwards: what the call gives where every question is passed, and else what it held
+unfoldable pub lent : {A : Type 0} → List Question → A → A → A
+lent [] given kept = given
+lent (q ∷ qs) given kept = cond (q .passed) (lent qs given kept) kept
+
+-- the questions of `count` records or rows from index i on, one's before the next one's
+unfoldable pub each : (ℕ → List Question) → ℕ → ℕ → List Question
+each questions i zero = []
+each questions i (suc count) = questions i ++ each questions (suc i) count
+
+-- the place i holds a mark of two bytes
+unfoldable pub marked : List ℕ → ℕ → ℕ → ℕ → Bool
+marked bytes i a b = eqb (getD bytes i 0) a && eqb (getD bytes (suc i) 0) b
+
+unfoldable pub askRoom : ℕ → ℕ → Question
+askRoom needed room = ask 1 0 (leb needed room)
+
+unfoldable pub kindKnown : ℕ → Bool
+kindKnown kind = leb kind 3
+
+unfoldable pub boundKnown : Bound → Bool
+boundKnown (Rows c) = leb c mostRows
+boundKnown (Share p) = leb p 1000
+
+unfoldable pub groupKnown : ℕ → Bool
+groupKnown group = leb group 7
+
+-- 7 to 9, of a record
+unfoldable pub spanQuestions : Span ℕ → ℕ → List Question
+spanQuestions r i =
+    ask 7 i (groupKnown (r .group)) ∷ ask 8 i (leb (r .first) (r .last)) ∷ ask 9 i (leb (r .value) 1000) ∷ []
+
+-- 6 to 9, of the record with index i
+unfoldable pub recordQuestions : List ℕ → ℕ → List Question
+recordQuestions log i =
+    ask 6 i (marked log (recordLength * i) 0x4C 0x44) ∷ spanQuestions (recordAt log (recordLength * i)) i
+
+unfoldable pub mostRecords : ℕ
+mostRecords = 128
+
+-- 4 to 9
+unfoldable pub logQuestions : List ℕ → List Question
+logQuestions log =
+    ask 4 0 (eqb (length log % recordLength) 0)
+    ∷ ask 5 0 (leb (recordCount log) mostRecords)
+    ∷ each (recordQuestions log) 0 (recordCount log)
+
+-- those that a query and a log are asked ahead of 10
+unfoldable pub orderQuestions : Query → List ℕ → List Question
+orderQuestions q log = ask 2 0 (kindKnown (q .kind)) ∷ ask 3 0 (boundKnown (q .bound)) ∷ logQuestions log
+
+-- 10: do the segments of the log answer the bound?
+unfoldable pub enoughRows : Query → List ℕ → Bool
+enoughRows q log = isSome (countFor (q .bound) (segments (q .kind) (records log)))
+
+unfoldable pub queryQuestions : Query → List ℕ → ℕ → List Question
+queryQuestions q log room =
+    askRoom slotLength room ∷ (orderQuestions q log ++ (ask 10 0 (enoughRows q log) ∷ []))
+
+-- the places that a list of segments needs
+unfoldable pub mostSegments : ℕ
+mostSegments = 255
+
+unfoldable pub segmentsQuestions : ℕ → List ℕ → ℕ → List Question
+segmentsQuestions kind log room = askRoom mostSegments room ∷ ask 2 0 (kindKnown kind) ∷ logQuestions log
+
+unfoldable pub writeQuestions : Span ℕ → ℕ → List Question
+writeQuestions r room = askRoom recordLength room ∷ spanQuestions r 0
+
+-- the row's group is above the previous row's, or equal with its first frame above the previous last
+unfoldable pub follows : Span ℕ → Span ℕ → Bool
+follows r previous =
+    ltb (previous .group) (r .group) || (eqb (r .group) (previous .group) && ltb (previous .last) (r .first))
+
+unfoldable pub inOrder : List ℕ → ℕ → Bool
+inOrder slot zero = true
+inOrder slot (suc i) = follows (slotRow slot (suc i)) (slotRow slot i)
+
+unfoldable pub mostValue : ℕ
+mostValue = 128000
+
+unfoldable pub rowKnown : Span ℕ → Bool
+rowKnown r = groupKnown (r .group) && leb (r .first) (r .last) && leb (r .value) mostValue
+
+-- 14 to 16, of the row with index i
+unfoldable pub rowQuestions : List ℕ → ℕ → List Question
+rowQuestions slot i =
+    ask 14 i (marked slot (rowPlace i) 0x50 0x52) ∷ ask 15 i (rowKnown (slotRow slot i)) ∷ ask 16 i (inOrder slot i) ∷ []
+
+-- the `count` bytes from place i on are all zero
+unfoldable pub zeros : List ℕ → ℕ → ℕ → Bool
+zeros bytes i zero = true
+zeros bytes i (suc count) = eqb (getD bytes i 0) 0 && zeros bytes (suc i) count
+
+-- 17
+unfoldable pub tailZero : List ℕ → Bool
+tailZero slot = zeros slot (rowPlace (slotCount slot)) (slotLength - rowPlace (slotCount slot))
+
+-- 1 and 11 to 17
+unfoldable pub slotQuestions : List ℕ → List Question
+slotQuestions slot =
+    askRoom slotLength (length slot)
+    ∷ ask 11 0 (marked slot 0 0x50 0x48)
+    ∷ ask 12 0 (kindKnown (slotKind slot))
+    ∷ ask 13 0 (leb (slotCount slot) mostRows)
+    ∷ (each (rowQuestions slot) 0 (slotCount slot) ++ (ask 17 0 (tailZero slot) ∷ []))
+
+-- the slot's, then 7
+unfoldable pub lookupQuestions : List ℕ → ℕ → List Question
+lookupQuestions slot group = slotQuestions slot ++ (ask 7 0 (groupKnown group) ∷ [])

@@ -1,0 +1,97 @@
+// The data that crosses crates: log records, segments, rows, queries and the answers of the tool's calls.
+// What they mean stands in specs/, where `Demands` states what the tool owes its user.
+
+// A log record: the load of a group over the frames first to last, both included, in thousandths of a frame's time.
+pub struct Record {
+    pub group: u8,
+    pub first: u16,
+    pub last: u16,
+    pub load: u16,
+}
+
+// A longest stretch of covered frames of one group with equal value.
+pub struct Segment {
+    pub group: u8,
+    pub first: u16,
+    pub last: u16,
+    pub value: u32,
+}
+
+// A row of a slot: a block of adjacent segments with its row value.
+pub struct Row {
+    pub group: u8,
+    pub first: u16,
+    pub last: u16,
+    pub value: u32,
+}
+
+// What limits the rows of an answer: their number, or their error in thousandths of the least error of the fewest rows.
+pub enum Bound {
+    Rows(u16),
+    Share(u16),
+}
+
+pub struct Query {
+    pub kind: u8,
+    pub bound: Bound,
+}
+
+// The number of the first question that was answered 'no', with the index of the record or row (0 where there is none).
+pub struct Refusal {
+    pub question: u8,
+    pub index: usize,
+}
+
+// The answer of the record writer.
+pub enum RecordAnswer {
+    Written,
+    Refused(Refusal),
+}
+
+// The answer of the segment call: how many segments there are.
+pub enum SegmentsAnswer {
+    Found(usize),
+    Refused(Refusal),
+}
+
+// The answer of a query: the rows written, their error, and the cuts weighed on the way.
+pub enum QueryAnswer {
+    Written {
+        rows: usize,
+        error: u64,
+        weighed: u64,
+    },
+    Refused(Refusal),
+}
+
+// The reader's answer: what the header of a slot says.
+pub enum ReadAnswer {
+    Slot { kind: u8, error: u64, rows: usize },
+    Refused(Refusal),
+}
+
+// What the reader gives: its answer, and the rows beside it. Places past the last row are rows of zeros.
+pub struct Reading {
+    pub answer: ReadAnswer,
+    pub rows: [Row; 64],
+}
+
+// One step of a walk over a slot's rows.
+pub enum Step {
+    Found(Row),
+    End,
+    Refused(Refusal),
+}
+
+// A step, and the number of the row that comes next.
+pub struct Walked {
+    pub step: Step,
+    pub next: usize,
+}
+
+// The answer of a lookup: the value of the row that holds the frame.
+pub enum LookupAnswer {
+    Value(u32),
+    Uncovered,
+    Refused(Refusal),
+}
