@@ -1,0 +1,4 @@
+-- The laws of the definitions, and the demands.
+pub mod Tests
+pub mod Sums
+pub mod Cost
