@@ -3,3 +3,4 @@ pub mod Tests
 pub mod Sums
 pub mod Cost
 pub mod Table
+pub mod Choice

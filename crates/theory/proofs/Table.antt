@@ -27,10 +27,10 @@ record Sought (tot : ℕ → Option ℕ) (from top : ℕ) (b : Best) : Type 0 wh
   best : (j u : ℕ) → from ≤ j → j < top → tot j ≡ some u
       → (t : ℕ) × (b .total ≡ some t) × (t ≤ u) × (u ≤ t → j ≤ b .cut)
 
-none≢some : {A : Type 0} {a : A} {o : Option A} → o ≡ none → o ≡ some a → ⊥
+pub none≢some : {A : Type 0} {a : A} {o : Option A} → o ≡ none → o ≡ some a → ⊥
 none≢some p q = let z : _≡_ {A = ℕ} 0 1 = cc in omega arith
 
-some-inj : {A : Type 0} {a b : A} {o : Option A} → o ≡ some a → o ≡ some b → a ≡ b
+pub some-inj : {A : Type 0} {a b : A} {o : Option A} → o ≡ some a → o ≡ some b → a ≡ b
 some-inj p q = cc
 
 plus-some : (o : Option ℕ) (e t : ℕ) → plus o e ≡ some t → (s : ℕ) × (o ≡ some s) × (t ≡ s + e)
