@@ -2,5 +2,7 @@
 pub mod Tests
 pub mod Sums
 pub mod Cost
+pub mod Blocks
+pub mod Nearest
 pub mod Table
 pub mod Choice

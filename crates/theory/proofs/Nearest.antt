@@ -1,0 +1,187 @@
+-- The row value: the nearest whole number to a block's mean, the lower one at a half, lies between the block's least and
+-- greatest value, and no whole number, negative ones included, has a smaller squared error. Assumes nothing.
+use Prim.Native.Nat.{ℕ, zero, suc, _+_, _-_, _*_, _/_, _%_, _≤_, _<_, zero-le}
+use mathlib.Core.Bool.{Bool, true, false, cond}
+use mathlib.Core.List.{List, [], _∷_, List·Memᴰ, List·Memᴰ·head, List·Memᴰ·tail}
+use mathlib.Core.Logic.{_⊎_, inl, inr, ⊎-elim}
+use mathlib.Core.Path.{_≡_, refl, sym, ap, _∙_, subst}
+use native.Mathlib.Decide.{decLe}
+use native.Mathlib.Nat.{mul-le-mul-left, mul-le-mul-right, div-add-mod', mod-lt, lt-of-not-le}
+use native.Mathlib.Omega.{arith}
+use lib.Dec.{ltb, eqb}
+use lib.IntN.{ℤ, pos, negsuc, natAbs, _-ℤ_, _+ℤ_, negℤ, subℕ}
+use borrow.Author.Tests.{ltb-true, ltb-false, eqb-true}
+use Rattle.model.specs.Common.{sumOf}
+use Rattle.model.specs.Spans.{Span, spanLength}
+use Rattle.model.specs.Blocks.{Totals, empty, totalsOf, add, totals, nearest, rowValue, squared, errorWith, blockError}
+use Rattle.theory.proofs.Tests.{cases}
+use Rattle.theory.proofs.Cost.{Cost, costOf}
+
+-- ---- the squared difference, without subtraction
+
+-- d is the difference of v and r, whichever is greater
+apart : (v r d : ℕ) → (v ≡ r + d) ⊎ (r ≡ v + d) → d * d + 2 * (v * r) ≡ v * v + r * r
+apart v r d (inl e) = rw e (omega arith)
+apart v r d (inr e) = rw e (omega arith)
+
+pub squared-pos : (v r : ℕ) → squared v (pos r) + 2 * (v * r) ≡ v * v + r * r
+unfolding squared
+squared-pos v zero = apart v 0 (v + 0) (inl (omega arith))
+squared-pos v (suc r) =
+    cases (ltb v (suc r))
+    (λ e. rw e (apart v (suc r) (suc (suc r - suc v)) (inr (let h = ltb-true v (suc r) e in omega arith))))
+    (λ e. rw e (apart v (suc r) (v - suc r) (inl (let h = ltb-false v (suc r) e in omega arith))))
+
+pub squared-neg : (v r : ℕ) → squared v (negsuc r) ≡ (v + suc r) * (v + suc r)
+unfolding squared
+squared-neg v r = refl
+
+-- ---- a block's squared error from its totals
+
+pub error-pos : (r : ℕ) (b : List (Span ℕ))
+    → errorWith (pos r) b + 2 * (r * (totals b) .sum) ≡ (totals b) .squares + r * r * (totals b) .frames
+unfolding errorWith sumOf totals empty add totalsOf
+error-pos r [] = omega arith
+error-pos r (s ∷ b) =
+    let ih = error-pos r b in
+    let one = ap (λ (x : ℕ). spanLength s * x) (squared-pos (s .value) r) in
+    omega arith
+
+error-neg : (r : ℕ) (b : List (Span ℕ)) → (totals b) .squares ≤ errorWith (negsuc r) b
+unfolding errorWith sumOf totals empty add totalsOf
+error-neg r [] = zero-le
+error-neg r (s ∷ b) =
+    let ih = error-neg r b in
+    let one = ap (λ (x : ℕ). spanLength s * x) (squared-neg (s .value) r) in
+    omega arith
+
+-- a block of no frames has totals of 0
+no-frames : (b : List (Span ℕ)) → (totals b) .frames ≡ 0 → ((totals b) .sum ≡ 0) × ((totals b) .squares ≡ 0)
+unfolding totals empty add totalsOf
+no-frames [] h = (refl, refl)
+no-frames (s ∷ b) h =
+    let none-here : spanLength s ≡ 0 = omega arith in
+    let rest = no-frames b (omega arith) in
+    (rw (none-here, rest .0) (zero-mul-add (s .value)), rw (none-here, rest .1) (zero-mul-add (s .value * s .value)))
+  where
+    zero-mul-add : (x : ℕ) → 0 * x + 0 ≡ 0
+    zero-mul-add x = omega arith
+
+-- ---- the nearest whole number
+
+-- at most a half above the mean, and less than a half below it
+pub nearest-low : (sum frames : ℕ) → 0 < frames → 2 * sum ≤ (2 * nearest sum frames + 1) * frames
+unfolding nearest
+nearest-low sum frames pos-frames =
+    let parts = div-add-mod' sum frames in
+    let left = mod-lt sum pos-frames in
+    cases (ltb frames (2 * (sum % frames)))
+    (λ e. rw e (omega arith))
+    (λ e. rw e (let small = ltb-false frames (2 * (sum % frames)) e in omega arith))
+
+pub nearest-high : (sum frames : ℕ) → 0 < frames → 2 * (nearest sum frames * frames) < 2 * sum + frames
+unfolding nearest
+nearest-high sum frames pos-frames =
+    let parts = div-add-mod' sum frames in
+    cases (ltb frames (2 * (sum % frames)))
+    (λ e. rw e (let large = ltb-true frames (2 * (sum % frames)) e in omega arith))
+    (λ e. rw e (omega arith))
+
+-- so no other number r has a smaller r² × frames − 2 × r × sum
+nearest-least : (sum frames r : ℕ) → 0 < frames
+    → nearest sum frames * nearest sum frames * frames + 2 * (r * sum)
+    ≤ r * r * frames + 2 * (nearest sum frames * sum)
+nearest-least sum frames r pos-frames =
+    by (nearest sum frames) (nearest-low sum frames pos-frames) (nearest-high sum frames pos-frames)
+  where
+    by : (n : ℕ) → 2 * sum ≤ (2 * n + 1) * frames → 2 * (n * frames) < 2 * sum + frames
+        → n * n * frames + 2 * (r * sum) ≤ r * r * frames + 2 * (n * sum)
+    by n low high =
+        elim (decLe n r) [
+          | yes h ↦ above (r - n) (omega arith)
+          | no h ↦ under (n - suc r) (omega arith)
+        ]
+      where
+        -- r is d above n
+        above : (d : ℕ) → r ≡ n + d → n * n * frames + 2 * (r * sum) ≤ r * r * frames + 2 * (n * sum)
+        above zero e = rw e (omega arith)
+        above (suc d) e = rw e (let h = mul-le-mul-left (suc d) low in omega arith)
+
+        -- n is 1 + d above r
+        under : (d : ℕ) → n ≡ suc (r + d) → n * n * frames + 2 * (r * sum) ≤ r * r * frames + 2 * (n * sum)
+        under d e =
+            let h = mul-le-mul-left (suc d) (rw e at high) in
+            rw e (omega arith)
+
+-- a row value's error is least among all numbers, negative ones included
+row-least-pos : (b : List (Span ℕ)) (r : ℕ) → blockError b ≤ errorWith (pos r) b
+unfolding blockError rowValue
+row-least-pos b r =
+    elim (decLe 1 ((totals b) .frames)) [
+      | yes h ↦
+          (let here = error-pos (nearest ((totals b) .sum) ((totals b) .frames)) b in
+          let there = error-pos r b in
+          let less = nearest-least ((totals b) .sum) ((totals b) .frames) r h in
+          omega arith)
+      | no h ↦
+          (let here = void (omega arith) (nearest ((totals b) .sum) ((totals b) .frames)) in
+          omega arith)
+    ]
+  where
+    void : (totals b) .frames ≡ 0 → (n : ℕ) → errorWith (pos n) b ≡ 0
+    void none n =
+        let zeros = no-frames b none in
+        let here = rw (zeros .0, zeros .1, none) at (error-pos n b) in
+        omega arith
+
+pub row-least : (b : List (Span ℕ)) (z : ℤ) → blockError b ≤ errorWith z b
+row-least b (pos r) = row-least-pos b r
+row-least b (negsuc r) =
+    let zero-row = row-least-pos b 0 in
+    let squares-row = error-pos 0 b in
+    let neg = error-neg r b in
+    omega arith
+
+-- the row value lies between a lower and an upper bound of the block's values
+module _ (lo hi : ℕ) where
+  sum-between : (b : List (Span ℕ)) → ((s : Span ℕ) → List·Memᴰ s b → (lo ≤ s .value) × (s .value ≤ hi))
+      → (lo * (totals b) .frames ≤ (totals b) .sum) × ((totals b) .sum ≤ hi * (totals b) .frames)
+  unfolding totals empty add totalsOf
+  sum-between [] h = (omega arith, omega arith)
+  sum-between (s ∷ b) h =
+      let ih = sum-between b (λ t m. h t (List·Memᴰ·tail m)) in
+      let here = h s (List·Memᴰ·head refl) in
+      let low = mul-le-mul-left (spanLength s) (here .0) in
+      let high = mul-le-mul-left (spanLength s) (here .1) in
+      (omega arith, omega arith)
+
+  pub row-between : (b : List (Span ℕ)) → 0 < (totals b) .frames
+      → ((s : Span ℕ) → List·Memᴰ s b → (lo ≤ s .value) × (s .value ≤ hi)) → (lo ≤ rowValue b) × (rowValue b ≤ hi)
+  unfolding rowValue
+  row-between b some-frames h =
+      by (nearest ((totals b) .sum) ((totals b) .frames)) ((totals b) .sum) ((totals b) .frames) some-frames
+      (nearest-low _ _ some-frames) (nearest-high _ _ some-frames) (sum-between b h .0) (sum-between b h .1)
+    where
+      by : (n sum frames : ℕ) → 0 < frames → 2 * sum ≤ (2 * n + 1) * frames → 2 * (n * frames) < 2 * sum + frames
+          → lo * frames ≤ sum → sum ≤ hi * frames → (lo ≤ n) × (n ≤ hi)
+      by n sum frames pos-frames low high at-least at-most = (
+        elim (decLe lo n)
+            [ yes q ↦ q | no q ↦ (let far = mul-le-mul-right frames (lt-of-not-le q) in absurd (omega arith)) ],
+        elim (decLe n hi)
+            [ yes q ↦ q | no q ↦ (let far = mul-le-mul-right frames (lt-of-not-le q) in absurd (omega arith)) ],
+      )
+
+-- ---- the cost of the tool's rows: squared differences, every whole number allowed
+
+pub squares : Cost ℕ ℤ
+unfolding costOf errorWith blockError
+squares =
+    record {
+      same = eqb;
+      same-eq = eqb-true;
+      cost = squared;
+      ok = λ v z. Unit {0};
+      best = λ b. pos (rowValue b);
+      best-ok = λ b s m. tt;
+      best-least = λ b z h. row-least b z;
+    }
