@@ -1,15 +1,15 @@
 -- What each call answers, and what the places lent to it hold afterwards. For each answer that is an enum, the paper's
 -- number and values for each of its cases.
-use Prim.Native.Nat.{ℕ, zero, suc, _-_}
+use Prim.Native.Nat.{ℕ, suc}
 use mathlib.Core.Bool.{Bool, true, false, cond}
 use mathlib.Core.List.{List, [], _∷_, _++_, map}
 use mathlib.Core.Option.{Option, none, some, Option·getD}
 use lib.Dec.{ltb}
-use lib.ListN.{length, drop, replicate}
-use Rattle.model.specs.Spans.{Span, nowhere}
+use lib.ListN.{length, drop}
+use Rattle.model.specs.Spans.{Span}
 use Rattle.model.specs.Log.{recordLength, recordBytes, records}
 use Rattle.model.specs.Segments.{segments}
-use Rattle.model.specs.Split.{Reduced, reduced, mostRows}
+use Rattle.model.specs.Split.{Reduced, reduced}
 use Rattle.model.specs.Slot.{slotLength, slotBytes, slotKind, slotCount, slotError, slotRow, slotRows, valueIn}
 use Rattle.model.specs.Questions.{Question, Outcome, refused, accepted, outcome, lent}
 use Rattle.model.specs.Questions.{writeQuestions, segmentsQuestions, queryQuestions, slotQuestions, lookupQuestions}
@@ -17,6 +17,8 @@ use Rattle.model.specs.declared.Record.{Record}
 use Rattle.model.specs.declared.Segment.{Segment}
 use Rattle.model.specs.declared.Row.{Row}
 use Rattle.model.specs.declared.Query.{Query}
+use Rattle.model.specs.declared.Asked.{Asked}
+use Rattle.model.specs.declared.Asked.the-variants as asked
 use Rattle.model.specs.declared.RecordAnswer.{RecordAnswer}
 use Rattle.model.specs.declared.RecordAnswer.the-variants as record-answer
 use Rattle.model.specs.declared.SegmentsAnswer.{SegmentsAnswer}
@@ -42,6 +44,12 @@ rowOfSpan s = record { group = s .group; first = s .first; last = s .last; value
 
 unfoldable pub rowSpan : Row → Span ℕ
 rowSpan r = record { group = r .group; first = r .first; last = r .last; value = r .value }
+
+-- A list of questions alone.
+
+unfoldable pub askedCase : Asked → Outcome (Unit {0})
+askedCase asked.Passed = accepted tt
+askedCase (asked.Refused r) = refused (r .question) (r .index)
 
 -- The record writer: 0 and nothing more where it has written.
 
@@ -121,10 +129,6 @@ readOutcome slot =
 -- the rows read, none in a refusal
 unfoldable pub readRows : List ℕ → List (Span ℕ)
 readRows slot = lent (slotQuestions slot) (slotRows slot) []
-
--- the 64 places for rows: those read, then rows of zeros
-unfoldable pub readPlaces : List ℕ → List (Span ℕ)
-readPlaces slot = readRows slot ++ replicate (mostRows - length (readRows slot)) nowhere
 
 -- The walk by slot and number: a row, or none for 'end'; and the number of the next row, unchanged at the end and in a
 -- refusal.

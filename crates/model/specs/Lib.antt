@@ -9,5 +9,6 @@ pub mod Reductions
 pub mod Slot
 pub mod Questions
 pub mod Calls
+pub mod Arrays
 pub mod Fitting
 pub mod Demands

@@ -17,6 +17,24 @@ pub struct Segment {
     pub value: u32,
 }
 
+// The records of a log, field by field. Places past the count are zeros.
+pub struct Records {
+    pub groups: [u8; 128],
+    pub firsts: [u16; 128],
+    pub lasts: [u16; 128],
+    pub loads: [u16; 128],
+    pub count: usize,
+}
+
+// Segments, field by field. Places past the count are zeros.
+pub struct Segments {
+    pub groups: [u8; 255],
+    pub firsts: [u16; 255],
+    pub lasts: [u16; 255],
+    pub values: [u32; 255],
+    pub count: usize,
+}
+
 // A row of a slot: a block of adjacent segments with its row value.
 pub struct Row {
     pub group: u8,
@@ -40,6 +58,12 @@ pub struct Query {
 pub struct Refusal {
     pub question: u8,
     pub index: usize,
+}
+
+// Whether every question was passed.
+pub enum Asked {
+    Passed,
+    Refused(Refusal),
 }
 
 // The answer of the record writer.

@@ -1,0 +1,2 @@
+-- The paper's worked cases, shown of the definitions.
+mod Page

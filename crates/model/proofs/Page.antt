@@ -1,0 +1,67 @@
+-- The segments of a log can be found among the frames up to its greatest last frame: a page that is short enough to
+-- compute. Assumes nothing.
+use Prim.Native.Nat.{ℕ, zero, suc, _+_, _-_, _≤_, _<_, max}
+use mathlib.Core.Bool.{Bool, true, false, _&&_, cond}
+use mathlib.Core.List.{List, [], _∷_, foldr}
+use mathlib.Core.Option.{Option, none, some}
+use mathlib.Core.Path.{_≡_, refl, sym, ap, _∙_}
+use native.Mathlib.Nat.{suc-add, zero-add}
+use native.Mathlib.Omega.{arith}
+use lib.Dec.{ltb, leb, eqb}
+use borrow.Author.Tests.{lt-leb, leb-true}
+use Rattle.model.specs.Spans.{Span, groupCount, frameCount, meets}
+use Rattle.model.specs.Log.{meeting, aggregated, value}
+use Rattle.model.specs.Segments.{place, framesFrom, groupsFrom, fuse, segmentsOf, segments}
+
+-- one more than the greatest last frame
+unfoldable pub horizon : List (Span ℕ) → ℕ
+horizon [] = 0
+horizon (r ∷ rs) = max (suc (r .last)) (horizon rs)
+
+and-false : (a : Bool) → a && false ≡ false
+and-false true = refl
+and-false false = refl
+
+meeting-none : (rs : List (Span ℕ)) (g f : ℕ) → horizon rs ≤ f → meeting rs g f f ≡ []
+unfolding horizon meeting meets
+meeting-none [] g f h = refl
+meeting-none (r ∷ rs) g f h =
+    let late : leb f (r .last) ≡ false = lt-leb f (r .last) (omega arith) in
+    rw (late, and-false (eqb (r .group) g && leb (r .first) f)) (meeting-none rs g f (omega arith))
+
+value-none : (kind : ℕ) (rs : List (Span ℕ)) (g f : ℕ) → horizon rs ≤ f → value kind rs g f ≡ none
+unfolding value aggregated
+value-none kind rs g f h = rw (meeting-none rs g f h) (either (ltb g groupCount && ltb f frameCount))
+  where
+    either : (b : Bool) → cond {A = Option ℕ} b none none ≡ none
+    either true = refl
+    either false = refl
+
+module _ {A : Type 0} (val : ℕ → ℕ → Option A) (page : ℕ) (blank : (g f : ℕ) → page ≤ f → val g f ≡ none) where
+  frames-blank : (g f count : ℕ) (rest : List (Span A)) → page ≤ f → framesFrom val g f count rest ≡ rest
+  unfolding framesFrom place
+  frames-blank g f zero rest h = refl
+  frames-blank g f (suc count) rest h = rw (blank g f h) (frames-blank g (suc f) count rest (omega arith))
+
+  frames-short : (g f a b : ℕ) (rest : List (Span A)) → page ≤ f + a
+      → framesFrom val g f (a + b) rest ≡ framesFrom val g f a rest
+  unfolding framesFrom
+  frames-short g f zero b rest h = rw zero-add (frames-blank g f b rest (omega arith))
+  frames-short g f (suc a) b rest h =
+      rw suc-add (ap (place (val g f) g f) (frames-short g (suc f) a b rest (omega arith)))
+
+  groups-short : (more g count : ℕ) → groupsFrom val (page + more) g count ≡ groupsFrom val page g count
+  unfolding groupsFrom
+  groups-short more g zero = refl
+  groups-short more g (suc count) =
+      rw (groups-short more (suc g) count) (frames-short g 0 page more (groupsFrom val page (suc g) count) (omega arith))
+
+pub short-page : (kind : ℕ) (rs : List (Span ℕ)) → leb (horizon rs) frameCount ≡ true
+    → segments kind rs ≡ segmentsOf eqb (value kind rs) groupCount (horizon rs)
+unfolding segments segmentsOf
+short-page kind rs h =
+    let fits = leb-true (horizon rs) frameCount h in
+    let parts : frameCount ≡ horizon rs + (frameCount - horizon rs) = omega arith in
+    ap (λ (n : ℕ). foldr (fuse eqb) [] (groupsFrom (value kind rs) n 0 groupCount)) parts
+    ∙ ap (foldr (fuse eqb) [])
+    (groups-short (value kind rs) (horizon rs) (λ g f. value-none kind rs g f) (frameCount - horizon rs) 0 groupCount)

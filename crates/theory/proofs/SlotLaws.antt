@@ -1,0 +1,414 @@
+-- The slot: what is written is read back, and an accepted slot is its own layout, byte for byte. One law for numbers of any
+-- width in bytes, and one for log records and rows, which differ only in their mark and the width of their value.
+-- Assumes nothing.
+use Prim.Native.Nat.{ℕ, zero, suc, _+_, _-_, _*_, _/_, _%_, _^_, _≤_, _<_}
+use mathlib.Core.Bool.{Bool, true, false, _&&_, cond}
+use mathlib.Core.List.{List, [], _∷_, _++_, append-assoc, List·Memᴰ, List·Memᴰ·head, List·Memᴰ·tail}
+use mathlib.Core.Path.{_≡_, refl, sym, ap, ap₂, subst, _∙_}
+use native.Mathlib.Omega.{arith}
+use native.Mathlib.Nat.{add-zero, zero-add, pow-suc, div-lt-iff-lt-mul}
+use native.Mathlib.Numerals.{add-one, add-two}
+use lib.Dec.{leb, eqb}
+use lib.ListN.{length, getD, take, drop, replicate, length-append, length-replicate}
+use lib.Seq.{drop-cons, drop-drop, getD-drop, take-add, drop-append-seam, drop-length}
+use borrow.Author.Tests.{leb-true, eqb-true, le-leb, eq-eqb}
+use Rattle.model.specs.Common.{listFrom, numberAt, bytesOf}
+use Rattle.model.specs.Spans.{Span, nowhere}
+use Rattle.model.specs.Log.{recordLength, recordBytes, recordAt}
+use Rattle.model.specs.Blocks.{segmentAt}
+use Rattle.model.specs.Split.{mostRows}
+use Rattle.model.specs.Slot.{slotLength, rowBytes, rowsBytes, usedBytes, slotBytes, rowPlace, slotKind, slotCount, slotError, slotRow, slotRows}
+use Rattle.model.specs.Questions.{Question, accepted, ask, askRoom, marked, each, kindKnown, groupKnown, follows, inOrder, mostValue, rowKnown, rowQuestions, zeros, tailZero, slotQuestions}
+use Rattle.model.specs.Calls.{Header, readOutcome, readRows}
+use Rattle.model.specs.Demands.{AllPass, Bytes, Storable, Reads}
+use Rattle.theory.proofs.Tests.{and-true, true-and}
+use Rattle.theory.proofs.Refusals.{all-nil, all-cons, all-head, all-tail, all-append, all-left, all-right, all-each, all-at, all-outcome, all-lent, outcome-accepted}
+
+-- ---- bytes at a place
+
+-- the byte at a place is the first of those from there on
+byte-at : (p x : ℕ) (bytes tail : List ℕ) → drop p bytes ≡ x ∷ tail → getD bytes p 0 ≡ x
+byte-at p x bytes tail e =
+    ap (λ (k : ℕ). getD bytes k 0) (sym (add-zero p)) ∙ sym (getD-drop p bytes 0 0) ∙ ap (λ (l : List ℕ). getD l 0 0) e
+
+-- and so further on
+drop-further : (p m : ℕ) (bytes tail : List ℕ) → drop p bytes ≡ tail → drop (p + m) bytes ≡ drop m tail
+drop-further p m bytes tail e = sym (drop-drop m p bytes) ∙ ap (λ (l : List ℕ). drop m l) e
+
+-- the bytes from a place on, one more taken
+take-next : (n p : ℕ) (bytes : List ℕ) → p < length bytes
+    → take (suc n) (drop p bytes) ≡ getD bytes p 0 ∷ take n (drop (suc p) bytes)
+take-next n p bytes fits = ap (λ (l : List ℕ). take (suc n) l) (drop-cons bytes p 0 fits)
+
+-- and several more
+take-more : (n m p : ℕ) (bytes : List ℕ)
+    → take (n + m) (drop p bytes) ≡ take n (drop p bytes) ++ take m (drop (p + n) bytes)
+take-more n m p bytes =
+    take-add n m (drop p bytes) ∙ ap (λ (l : List ℕ). take n (drop p bytes) ++ take m l) (drop-drop n p bytes)
+
+-- ---- numbers in bytes
+
+-- a number is read where its bytes stand
+pub number-read : (count x p : ℕ) (bytes tail : List ℕ) → x < 256 ^ count → drop p bytes ≡ bytesOf count x ++ tail
+    → numberAt count bytes p ≡ x
+unfolding numberAt bytesOf
+number-read zero x p bytes tail small e = omega arith
+number-read (suc count) x p bytes tail small e =
+    let first : getD bytes p 0 ≡ x % 256 = byte-at p (x % 256) bytes _ e in
+    let rest : numberAt count bytes (suc p) ≡ x / 256 =
+    number-read count (x / 256) (suc p) bytes tail (omega (arith, pow-suc 256 count)) (rw (← add-one p) (drop-further p 1 bytes _ e)) in
+    omega arith
+
+-- the bytes of the number that stands at a place are those there
+pub number-written : (count p : ℕ) (bytes : List ℕ) → Bytes bytes → p + count ≤ length bytes
+    → take count (drop p bytes) ≡ bytesOf count (numberAt count bytes p)
+unfolding numberAt bytesOf
+number-written zero p bytes small fits = refl
+number-written (suc count) p bytes small fits =
+    let b = small p in
+    let low : getD bytes p 0 ≡ (getD bytes p 0 + 256 * numberAt count bytes (suc p)) % 256 = omega arith in
+    let high : numberAt count bytes (suc p) ≡ (getD bytes p 0 + 256 * numberAt count bytes (suc p)) / 256 = omega arith in
+    take-next count p bytes (omega arith)
+    ∙ ap₂ {C = List ℕ} _∷_ low (number-written count (suc p) bytes small (omega arith) ∙ ap (bytesOf count) high)
+
+pub length-bytesOf : (count x : ℕ) → length (bytesOf count x) ≡ count
+unfolding bytesOf
+length-bytesOf zero x = refl
+length-bytesOf (suc count) x = ap suc (length-bytesOf count (x / 256))
+
+-- ---- a mark and a span: a log record or a row
+
+unfoldable spanBytes : ℕ → ℕ → ℕ → Span ℕ → List ℕ
+spanBytes a b width r = a ∷ b ∷ r .group ∷ (bytesOf 2 (r .first) ++ bytesOf 2 (r .last) ++ bytesOf width (r .value))
+
+unfoldable spanAt : ℕ → List ℕ → ℕ → Span ℕ
+spanAt width bytes p =
+    record {
+      group = getD bytes (p + 2) 0;
+      first = numberAt 2 bytes (p + 3);
+      last = numberAt 2 bytes (p + 5);
+      value = numberAt width bytes (p + 7);
+    }
+
+-- the frames and the value of a span fit their bytes
+pub record InBytes (width : ℕ) (r : Span ℕ) : Type 0 where
+  pub first : r .first < 2 ^ 16
+  pub last : r .last < 2 ^ 16
+  pub value : r .value < 256 ^ width
+
+module _ (a b width : ℕ) where
+  length-span : (r : Span ℕ) → length (spanBytes a b width r) ≡ 7 + width
+  unfolding spanBytes bytesOf
+  length-span r = let e = length-bytesOf width (r .value) in omega arith
+
+  -- a span is read where its bytes stand
+  span-read : (p : ℕ) (r : Span ℕ) (bytes tail : List ℕ) → InBytes width r
+      → drop p bytes ≡ spanBytes a b width r ++ tail → spanAt width bytes p ≡ r
+  unfolding spanBytes spanAt bytesOf
+  span-read p r bytes tail fits e = λ i.
+      record {
+        group = byte-at (p + 2) (r .group) bytes _ (drop-further p 2 bytes _ e) i;
+        first = number-read 2 (r .first) (p + 3) bytes _ (fits .first) (drop-further p 3 bytes _ e) i;
+        last = number-read 2 (r .last) (p + 5) bytes _ (fits .last) (drop-further p 5 bytes _ e) i;
+        value = number-read width (r .value) (p + 7) bytes tail (fits .value) (drop-further p 7 bytes _ e) i;
+      }
+
+  -- and its mark is found
+  mark-read : (p : ℕ) (r : Span ℕ) (bytes tail : List ℕ) → drop p bytes ≡ spanBytes a b width r ++ tail
+      → marked bytes p a b ≡ true
+  unfolding spanBytes marked
+  mark-read p r bytes tail e =
+      true-and _ _ (eq-eqb _ _ (byte-at p a bytes _ e))
+      (eq-eqb _ _ (byte-at (suc p) b bytes _ (rw add-one at (drop-further p 1 bytes _ e))))
+
+  -- the bytes of the marked span that stands at a place are those there
+  span-written : (p : ℕ) (bytes : List ℕ) → Bytes bytes → p + (7 + width) ≤ length bytes → marked bytes p a b ≡ true
+      → take (7 + width) (drop p bytes) ≡ spanBytes a b width (spanAt width bytes p)
+  unfolding spanBytes spanAt marked
+  span-written p bytes small fits mark =
+      let marks = and-true (eqb (getD bytes p 0) a) (eqb (getD bytes (suc p) 0) b) mark in
+      let head : take 3 (drop p bytes) ≡ a ∷ b ∷ getD bytes (p + 2) 0 ∷ [] =
+      take-next 2 p bytes (omega arith)
+      ∙ ap₂ {C = List ℕ} _∷_ (eqb-true _ _ (marks .0))
+      (take-next 1 (suc p) bytes (omega arith)
+      ∙ ap₂ {C = List ℕ} _∷_ (eqb-true _ _ (marks .1))
+      (take-next 0 (suc (suc p)) bytes (omega arith) ∙ rw (add-two p))) in
+      take-more 7 width p bytes
+      ∙ ap₂ {C = List ℕ} _++_
+      (take-more 5 2 p bytes
+      ∙ ap₂ {C = List ℕ} _++_
+      (take-more 3 2 p bytes ∙ ap₂ {C = List ℕ} _++_ head (number-written 2 (p + 3) bytes small (omega arith)))
+      (number-written 2 (p + 5) bytes small (omega arith)))
+      (number-written width (p + 7) bytes small (omega arith))
+
+-- ---- log records
+
+pub length-recordBytes : (r : Span ℕ) → length (recordBytes r) ≡ recordLength
+unfolding recordBytes recordLength spanBytes
+length-recordBytes r = length-span 0x4C 0x44 2 r
+
+-- a written record is read back
+pub record-read : (r : Span ℕ) (before rest : List ℕ) → InBytes 2 r
+    → recordAt (before ++ recordBytes r ++ rest) (length before) ≡ r
+unfolding recordAt recordBytes spanAt spanBytes
+record-read r before rest fits =
+    span-read 0x4C 0x44 2 (length before) r _ rest fits
+    (ap (λ (l : List ℕ). drop (length before) l) (append-assoc before (recordBytes r) rest)
+    ∙ drop-append-seam before (recordBytes r ++ rest))
+
+pub length-rowBytes : (r : Span ℕ) → length (rowBytes r) ≡ 11
+unfolding rowBytes spanBytes
+length-rowBytes r = length-span 0x50 0x52 4 r
+
+pub length-rowsBytes : (rows : List (Span ℕ)) → length (rowsBytes rows) ≡ 11 * length rows
+unfolding rowsBytes
+length-rowsBytes [] = refl
+length-rowsBytes (r ∷ rows) =
+    omega (arith, length-append (rowBytes r) (rowsBytes rows), length-rowBytes r, length-rowsBytes rows)
+
+module _ (kind error : ℕ) (rows : List (Span ℕ)) where
+  pub length-usedBytes : length (usedBytes kind error rows) ≡ 12 + 11 * length rows
+  unfolding usedBytes bytesOf
+  length-usedBytes = omega (arith, length-rowsBytes rows)
+
+  pub length-slotBytes : length rows ≤ mostRows → length (slotBytes kind error rows) ≡ slotLength
+  unfolding slotBytes slotLength mostRows
+  length-slotBytes few =
+      omega (arith, length-append (usedBytes kind error rows) (replicate (768 - length (usedBytes kind error rows)) 0), length-replicate {A = ℕ} (768 - length (usedBytes kind error rows)) 0, length-usedBytes)
+
+-- ---- what is written is read back
+
+-- the bytes from a row on are its own and those of the rows behind it
+rows-from : (p i : ℕ) (rows : List (Span ℕ)) (bytes tail : List ℕ) → i ≤ length rows
+    → drop p bytes ≡ rowsBytes rows ++ tail → drop (p + 11 * i) bytes ≡ rowsBytes (drop i rows) ++ tail
+unfolding rowsBytes rowBytes bytesOf
+rows-from p zero rows bytes tail le e = rw (add-zero p) e
+rows-from p (suc i) [] bytes tail le e = absurd (omega arith)
+rows-from p (suc i) (r ∷ rows) bytes tail le e =
+    let same : p + 11 * suc i ≡ p + 11 + 11 * i = omega arith in
+    rw same (rows-from (p + 11) i rows bytes tail (omega arith) (drop-further p 11 bytes _ e))
+
+-- a test for zeros finds those that stand there
+zeros-read : (count p : ℕ) (bytes tail : List ℕ) → drop p bytes ≡ replicate count 0 ++ tail → zeros bytes p count ≡ true
+unfolding zeros
+zeros-read zero p bytes tail e = refl
+zeros-read (suc count) p bytes tail e =
+    true-and _ _ (eq-eqb _ _ (byte-at p 0 bytes _ e))
+    (zeros-read count (suc p) bytes tail (rw add-one at (drop-further p 1 bytes _ e)))
+
+member-at : {A : Type 0} (d : A) (l : List A) (i : ℕ) → i < length l → List·Memᴰ (getD l i d) l
+member-at d [] i lt = absurd (omega arith)
+member-at d (a ∷ l) zero lt = List·Memᴰ·head refl
+member-at d (a ∷ l) (suc i) lt = List·Memᴰ·tail (member-at d l i (omega arith))
+
+-- a list is that of its elements
+pub listFrom-of : {A : Type 0} (d : A) (from : ℕ) (h : ℕ → A) (l : List A)
+    → ((i : ℕ) → i < length l → h (from + i) ≡ getD l i d) → listFrom from (length l) h ≡ l
+unfolding listFrom
+listFrom-of d from h [] e = refl
+listFrom-of {A} d from h (a ∷ l) e =
+    ap₂ {C = List A} _∷_ (rw add-zero at (e 0 (omega arith)))
+    (listFrom-of d (suc from) h l (λ i lt. let same : suc from + i ≡ from + suc i = omega arith in rw same (e (suc i) (omega arith))))
+
+-- a row that can be stored fits its bytes
+known-fits : (r : Span ℕ) → rowKnown r ≡ true → r .last < 2 ^ 16 → InBytes 4 r
+unfolding rowKnown mostValue
+known-fits r known fits =
+    let p = and-true (groupKnown (r .group) && leb (r .first) (r .last)) (leb (r .value) mostValue) known in
+    let q = and-true (groupKnown (r .group)) (leb (r .first) (r .last)) (p .0) in
+    let ordered = leb-true (r .first) (r .last) (q .1) in
+    let small = leb-true (r .value) mostValue (p .1) in
+    record { first = omega arith; last = fits; value = omega arith }
+
+module _ (kind error : ℕ) (rows : List (Span ℕ)) (slot rest : List ℕ) (storable : Storable kind error rows)
+    (written : slot ≡ usedBytes kind error rows ++ (replicate (slotLength - (12 + 11 * length rows)) 0 ++ rest)) where
+  count-read : slotCount slot ≡ length rows
+  unfolding usedBytes slotCount
+  count-read = byte-at 3 (length rows) slot _ (ap (λ (l : List ℕ). drop 3 l) written)
+
+  kind-read : slotKind slot ≡ kind
+  unfolding usedBytes slotKind
+  kind-read = byte-at 2 kind slot _ (ap (λ (l : List ℕ). drop 2 l) written)
+
+  error-read : slotError slot ≡ error
+  unfolding usedBytes slotError
+  error-read =
+      number-read 8 error 4 slot _ (storable .error64)
+      (ap (λ (l : List ℕ). drop 4 l) written ∙ append-assoc (bytesOf 8 error) (rowsBytes rows) _)
+
+  -- the rows' bytes from row i on
+  rows-at : (i : ℕ) → i ≤ length rows → drop (rowPlace i) slot
+      ≡ rowsBytes (drop i rows) ++ (replicate (slotLength - (12 + 11 * length rows)) 0 ++ rest)
+  unfolding usedBytes bytesOf rowPlace
+  rows-at i le = rows-from 12 i rows slot _ le (ap (λ (l : List ℕ). drop 12 l) written)
+
+  row-at : (i : ℕ) → i < length rows
+      → drop (rowPlace i) slot ≡ rowBytes (segmentAt rows i)
+      ++ (rowsBytes (drop (suc i) rows) ++ (replicate (slotLength - (12 + 11 * length rows)) 0 ++ rest))
+  unfolding rowsBytes segmentAt
+  row-at i lt =
+      rows-at i (omega arith)
+      ∙ rw (drop-cons rows i nowhere lt) (append-assoc (rowBytes (getD rows i nowhere)) (rowsBytes (drop (suc i) rows)) _)
+
+  known-at : (i : ℕ) → i < length rows → (rowKnown (segmentAt rows i) ≡ true) × ((segmentAt rows i) .last < 2 ^ 16)
+  unfolding segmentAt
+  known-at i lt = storable .rowsKnown (segmentAt rows i) (member-at nowhere rows i lt)
+
+  row-read : (i : ℕ) → i < length rows → slotRow slot i ≡ segmentAt rows i
+  unfolding rowBytes slotRow spanBytes spanAt
+  row-read i lt =
+      span-read 0x50 0x52 4 (rowPlace i) (segmentAt rows i) slot _
+      (known-fits (segmentAt rows i) (known-at i lt .0) (known-at i lt .1)) (row-at i lt)
+
+  order-read : (i : ℕ) → i < length rows → inOrder slot i ≡ true
+  unfolding inOrder
+  order-read zero lt = refl
+  order-read (suc i) lt = rw (row-read (suc i) lt, row-read i (omega arith)) (storable .sorted i lt)
+
+  row-passes : (i : ℕ) → i < length rows → AllPass (rowQuestions slot i)
+  unfolding rowQuestions ask rowBytes spanBytes
+  row-passes i lt =
+      let known : rowKnown (slotRow slot i) ≡ true = rw (row-read i lt) (known-at i lt .0) in
+      all-cons _ _ (mark-read 0x50 0x52 4 (rowPlace i) (segmentAt rows i) slot _ (row-at i lt))
+      (all-cons _ _ known (all-cons _ _ (order-read i lt) all-nil))
+
+  room-read : slotLength ≤ length slot
+  unfolding slotLength
+  room-read =
+      omega (arith, simp length-append at (ap length written), length-usedBytes kind error rows, length-replicate {A = ℕ} (768 - (12 + 11 * length rows)) 0)
+
+  end-read : tailZero slot ≡ true
+  unfolding tailZero rowPlace rowsBytes
+  end-read =
+      rw count-read
+      (zeros-read (slotLength - (12 + 11 * length rows)) (rowPlace (length rows)) slot rest
+      (rw (drop-length rows) at (rows-at (length rows) (omega arith))))
+
+  slot-passes : AllPass (slotQuestions slot)
+  unfolding slotQuestions ask askRoom usedBytes marked
+  slot-passes =
+      let few : slotCount slot ≤ mostRows = rw count-read (storable .count) in
+      let known : kindKnown (slotKind slot) ≡ true = rw kind-read (storable .known) in
+      all-cons _ _ (le-leb slotLength (length slot) room-read)
+      (all-cons _ _
+      (true-and _ _ (eq-eqb _ _ (byte-at 0 0x50 slot _ written)) (eq-eqb _ _ (byte-at 1 0x48 slot _ (ap (λ (l : List ℕ). drop 1 l) written))))
+      (all-cons _ _ known
+      (all-cons _ _ (le-leb _ _ few)
+      (all-append _ _ (all-each _ _ _ (λ i a b. row-passes i (omega (arith, count-read))))
+      (all-cons _ _ end-read all-nil)))))
+
+  reads : Reads slot kind error rows
+  unfolding readOutcome readRows slotRows segmentAt
+  reads =
+      record {
+        header =
+            all-outcome (slotQuestions slot) _ slot-passes
+            ∙ rw (kind-read, error-read, count-read);
+        body =
+            all-lent (slotQuestions slot) (slotRows slot) [] slot-passes
+            ∙ rw count-read (listFrom-of nowhere 0 (slotRow slot) rows (λ i lt. rw (zero-add i) (row-read i lt)));
+      }
+
+pub round-trip : (kind error : ℕ) (rows : List (Span ℕ)) (rest : List ℕ) → Storable kind error rows
+    → Reads (slotBytes kind error rows ++ rest) kind error rows
+unfolding slotBytes
+round-trip kind error rows rest storable =
+    reads kind error rows (slotBytes kind error rows ++ rest) rest storable
+    (rw (length-usedBytes kind error rows) (append-assoc (usedBytes kind error rows) _ rest))
+
+-- ---- an accepted slot is its own layout
+
+-- the zeros that a test finds stand there
+zeros-written : (count p : ℕ) (bytes : List ℕ) → p + count ≤ length bytes → zeros bytes p count ≡ true
+    → take count (drop p bytes) ≡ replicate count 0
+unfolding zeros
+zeros-written zero p bytes fits e = refl
+zeros-written (suc count) p bytes fits e =
+    let both = and-true (eqb (getD bytes p 0) 0) (zeros bytes (suc p) count) e in
+    take-next count p bytes (omega arith)
+    ∙ ap₂ {C = List ℕ} _∷_ (eqb-true _ _ (both .0)) (zeros-written count (suc p) bytes (omega arith) (both .1))
+
+pub length-listFrom : {A : Type 0} (from count : ℕ) (h : ℕ → A) → length (listFrom from count h) ≡ count
+unfolding listFrom
+length-listFrom from zero h = refl
+length-listFrom from (suc count) h = ap suc (length-listFrom (suc from) count h)
+
+-- the slot passes its questions from 13 on
+slot-tail : (slot : List ℕ) → AllPass (slotQuestions slot)
+    → AllPass (each (rowQuestions slot) 0 (slotCount slot) ++ (ask 17 0 (tailZero slot) ∷ []))
+unfolding slotQuestions
+slot-tail slot all = all-tail _ _ (all-tail _ _ (all-tail _ _ (all-tail _ _ all)))
+
+module _ (slot : List ℕ) (small : Bytes slot) (all : AllPass (slotQuestions slot)) where
+  room-passed : 768 ≤ length slot
+  unfolding slotQuestions askRoom ask slotLength
+  room-passed = leb-true 768 (length slot) (all-head _ _ all)
+
+  few-passed : slotCount slot ≤ 64
+  unfolding slotQuestions ask mostRows
+  few-passed = leb-true (slotCount slot) 64 (all-head _ _ (all-tail _ _ (all-tail _ _ (all-tail _ _ all))))
+
+  header-written : take 12 slot ≡ 0x50 ∷ 0x48 ∷ slotKind slot ∷ slotCount slot ∷ bytesOf 8 (slotError slot)
+  unfolding slotQuestions ask marked slotKind slotCount slotError
+  header-written =
+      let room = room-passed in
+      let mark = and-true (eqb (getD slot 0 0) 0x50) (eqb (getD slot 1 0) 0x48) (all-head _ _ (all-tail _ _ all)) in
+      take-more 4 8 0 slot
+      ∙ ap₂ {C = List ℕ} _++_
+      (take-next 3 0 slot (omega arith)
+      ∙ ap₂ {C = List ℕ} _∷_ (eqb-true _ _ (mark .0))
+      (take-next 2 1 slot (omega arith)
+      ∙ ap₂ {C = List ℕ} _∷_ (eqb-true _ _ (mark .1))
+      (take-next 1 2 slot (omega arith)
+      ∙ ap (λ (l : List ℕ). getD slot 2 0 ∷ l) (take-next 0 3 slot (omega arith)))))
+      (number-written 8 4 slot small (omega arith))
+
+  row-written : (i : ℕ) → i < slotCount slot → take 11 (drop (rowPlace i) slot) ≡ rowBytes (slotRow slot i)
+  unfolding rowBytes slotRow spanBytes spanAt rowQuestions ask rowPlace
+  row-written i lt =
+      let room = room-passed in
+      let few = few-passed in
+      span-written 0x50 0x52 4 (rowPlace i) slot small (omega arith)
+      (all-head _ _
+      (all-at (rowQuestions slot) 0 (slotCount slot) (all-left _ _ (slot-tail slot all)) i (omega arith) (omega arith)))
+
+  rows-written : (count i : ℕ) → i + count ≤ slotCount slot
+      → take (11 * count) (drop (rowPlace i) slot) ≡ rowsBytes (listFrom i count (slotRow slot))
+  unfolding listFrom rowsBytes rowPlace
+  rows-written zero i le = refl
+  rows-written (suc count) i le =
+      let more : 11 * suc count ≡ 11 + 11 * count = omega arith in
+      let next : rowPlace i + 11 ≡ rowPlace (suc i) = omega arith in
+      rw more
+      (take-more 11 (11 * count) (rowPlace i) slot
+      ∙ ap₂ {C = List ℕ} _++_ (row-written i (omega arith))
+      (ap (λ (p : ℕ). take (11 * count) (drop p slot)) next ∙ rows-written count (suc i) (omega arith)))
+
+  used-written : take (rowPlace (slotCount slot)) slot ≡ usedBytes (slotKind slot) (slotError slot) (slotRows slot)
+  unfolding usedBytes slotRows rowPlace
+  used-written =
+      take-add 12 (11 * slotCount slot) slot
+      ∙ ap₂ {C = List ℕ} _++_ header-written (rows-written (slotCount slot) 0 (omega arith))
+      ∙ rw (length-listFrom 0 (slotCount slot) (slotRow slot))
+
+  slot-written : take slotLength slot ≡ slotBytes (slotKind slot) (slotError slot) (slotRows slot)
+  unfolding slotBytes slotLength slotRows rowPlace tailZero ask
+  slot-written =
+      let room = room-passed in
+      let few = few-passed in
+      let place = rowPlace (slotCount slot) in
+      let whole : 768 ≡ place + (768 - place) = omega arith in
+      let zero-tail : tailZero slot ≡ true = all-head _ _ (all-right (each (rowQuestions slot) 0 (slotCount slot)) _ (slot-tail slot all)) in
+      let used : length (usedBytes (slotKind slot) (slotError slot) (slotRows slot)) ≡ place =
+      rw (length-usedBytes _ _ (slotRows slot), length-listFrom 0 (slotCount slot) (slotRow slot)) in
+      ap (λ (k : ℕ). take k slot) whole
+      ∙ take-add place (768 - place) slot
+      ∙ ap₂ {C = List ℕ} _++_ used-written (zeros-written (768 - place) place slot (omega arith) zero-tail)
+      ∙ rw used
+
+pub layout : (slot : List ℕ) (header : Header) → Bytes slot → readOutcome slot ≡ accepted header
+    → take slotLength slot ≡ slotBytes (header .kind) (header .error) (readRows slot)
+unfolding readOutcome readRows
+layout slot header small e =
+    let r = outcome-accepted (slotQuestions slot) _ header e in
+    slot-written slot small (r .0) ∙ rw (r .1, all-lent (slotQuestions slot) (slotRows slot) [] (r .0))
