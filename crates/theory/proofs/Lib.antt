@@ -13,4 +13,5 @@ pub mod Choice
 pub mod Converse
 pub mod Exchange
 pub mod Labels
+pub mod Cutting
 pub mod Conserved

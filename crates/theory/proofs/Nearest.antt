@@ -173,7 +173,7 @@ module _ (lo hi : ℕ) where
 
 -- ---- the cost of the tool's rows: squared differences, every whole number allowed
 
-pub squares : Cost ℕ ℤ
+unfoldable pub squares : Cost ℕ ℤ
 unfolding costOf errorWith blockError
 squares =
     record {
