@@ -232,7 +232,7 @@ fewest-is e (suc K) k u le h =
         (t, f, le′, λ l. omega (arith, fewest-le e K))
     kept q (no other) ih = ih (omega arith)
 
-first-some : (test : ℕ → Bool) (k count r : ℕ) → firstThat test k count ≡ some r
+pub first-some : (test : ℕ → Bool) (k count r : ℕ) → firstThat test k count ≡ some r
     → (test r ≡ true) × (k ≤ r) × (r < k + count) × ((j : ℕ) → k ≤ j → j < r → test j ≡ false)
 unfolding firstThat
 first-some test k zero r h = absurd (none≢some {o = none} refl h)

@@ -14,4 +14,6 @@ pub mod Converse
 pub mod Exchange
 pub mod Labels
 pub mod Cutting
+pub mod Answer
+pub mod Demands
 pub mod Conserved

@@ -1,21 +1,22 @@
 -- What a call's list of questions says: a refusal is the first 'no', and then what was lent is as it was; an acceptance
 -- means that every question is passed. So the first demand. Assumes nothing.
 use Prim.Native.Nat.{ℕ, zero, suc, _+_, _≤_, _<_}
-use mathlib.Core.Bool.{Bool, true, false, cond}
-use mathlib.Core.List.{List, [], _∷_, _++_, List·Memᴰ, List·Memᴰ·head, List·Memᴰ·tail, List·Memᴰ·not-nil, List·Memᴰ·cases-cons, List·Memᴰ·append-cases, Memᴰ·append-left, Memᴰ·append-right}
+use mathlib.Core.Bool.{true, false, cond}
+use mathlib.Core.List.{List, [], _∷_, _++_, List·Memᴰ, List·Memᴰ·head, List·Memᴰ·tail}
+use mathlib.Core.List.{List·Memᴰ·not-nil, List·Memᴰ·cases-cons, List·Memᴰ·append-cases, Memᴰ·append-left, Memᴰ·append-right}
 use mathlib.Core.Logic.{_⊎_, inl, inr, _↔_}
 use mathlib.Core.Path.{_≡_, refl, sym, ap, subst, _∙_}
 use native.Mathlib.Omega.{arith}
-use lib.Dec.{leb, eqb}
+use lib.Dec.{eqb}
 use borrow.Author.Tests.{le-leb, leb-true, eqb-true, eqb-false}
 use lib.ListN.{length}
 use Rattle.model.specs.Slot.{slotLength}
 use Rattle.model.specs.Questions.{Question, Outcome, refused, accepted, ask, askRoom, outcome, lent, each, enoughRows}
-use Rattle.model.specs.Questions.{orderQuestions, writeQuestions, segmentsQuestions, queryQuestions, slotQuestions, lookupQuestions}
+use Rattle.model.specs.Questions.{orderQuestions, writeQuestions, segmentsQuestions, queryQuestions, slotQuestions}
 use Rattle.model.specs.Calls.{Counts, writeOutcome, writtenBuffer, segmentsOutcome, filledList, queryOutcome, querySlot, answerOf, countsOf, readOutcome, stepOutcome, stepNext, lookupOutcome}
 use Rattle.model.specs.Demands.{AllPass, FirstNo, Asks, Demand1}
 use Rattle.model.specs.declared.Query.{Query}
-use Rattle.theory.proofs.Tests.{cases, true≢false}
+use Rattle.theory.proofs.Tests.{cases}
 
 -- an acceptance is no refusal
 pub accepted≢refused : {A : Type 0} {a : A} {n i : ℕ} → accepted a ≡ refused n i → ⊥
@@ -23,9 +24,11 @@ accepted≢refused e = let z : _≡_ {A = ℕ} 0 1 = cc in omega arith
 
 -- ---- every question is passed
 
+-- no questions are all passed
 pub all-nil : AllPass []
 all-nil q m = absurd (List·Memᴰ·not-nil m)
 
+-- one more question
 pub all-cons : (q : Question) (qs : List Question) → q .passed ≡ true → AllPass qs → AllPass (q ∷ qs)
 all-cons q qs here there x m = by (List·Memᴰ·cases-cons m)
   where
@@ -33,9 +36,11 @@ all-cons q qs here there x m = by (List·Memᴰ·cases-cons m)
     by (inl e) = ap (λ (z : Question). z .passed) e ∙ here
     by (inr t) = there x t
 
+-- the first question of those passed
 pub all-head : (q : Question) (qs : List Question) → AllPass (q ∷ qs) → q .passed ≡ true
 all-head q qs all = all q (List·Memᴰ·head refl)
 
+-- the others
 pub all-tail : (q : Question) (qs : List Question) → AllPass (q ∷ qs) → AllPass qs
 all-tail q qs all x m = all x (List·Memᴰ·tail m)
 
@@ -47,9 +52,11 @@ all-append ps qs left right x m = by (List·Memᴰ·append-cases ps m)
     by (inl t) = left x t
     by (inr t) = right x t
 
+-- so the first list's are
 pub all-left : (ps qs : List Question) → AllPass (ps ++ qs) → AllPass ps
 all-left ps qs all x m = all x (Memᴰ·append-left qs m)
 
+-- and the second's
 pub all-right : (ps qs : List Question) → AllPass (ps ++ qs) → AllPass qs
 all-right ps qs all x m = all x (Memᴰ·append-right ps m)
 
@@ -62,13 +69,16 @@ all-each qs i (suc count) all =
     all-append (qs i) (each qs (suc i) count) (all i (omega arith) (omega arith))
     (all-each qs (suc i) count (λ j a b. all j (omega arith) (omega arith)))
 
+-- so each one's are
 pub all-at : (qs : ℕ → List Question) (i count : ℕ) → AllPass (each qs i count)
     → (j : ℕ) → i ≤ j → j < i + count → AllPass (qs j)
 unfolding each
 all-at qs i zero all j a b = absurd (omega arith)
 all-at qs i (suc count) all j a b =
-    cases (eqb i j) (λ e. subst (λ (k : ℕ). AllPass (qs k)) (eqb-true i j e) (all-left (qs i) (each qs (suc i) count) all))
-    (λ e. all-at qs (suc i) count (all-right (qs i) (each qs (suc i) count) all) j (omega (arith, eqb-false i j e)) (omega arith))
+    let here = all-left (qs i) (each qs (suc i) count) all in
+    let there = all-right (qs i) (each qs (suc i) count) all in
+    cases (eqb i j) (λ e. subst (λ (k : ℕ). AllPass (qs k)) (eqb-true i j e) here)
+    (λ e. all-at qs (suc i) count there j (omega (arith, eqb-false i j e)) (omega arith))
 
 -- ---- the answer, and what was lent
 
@@ -117,6 +127,7 @@ module _ {A : Type 0} where
       later : q .passed ≡ true → AllPass qs × (b ≡ a) → AllPass (q ∷ qs) × (b ≡ a)
       later p r = (all-cons q qs p (r .0), r .1)
 
+  -- a call whose questions are all passed is accepted
   pub all-outcome : (qs : List Question) (a : A) → AllPass qs → outcome qs a ≡ accepted a
   unfolding outcome
   all-outcome [] a all = refl
@@ -128,6 +139,7 @@ module _ {A : Type 0} where
   outcome-behind [] qs a all = refl
   outcome-behind (p ∷ ps) qs a all = rw (all-head p ps all) (outcome-behind ps qs a (all-tail p ps all))
 
+  -- and what was lent holds what it gives
   pub all-lent : (qs : List Question) (given kept : A) → AllPass qs → lent qs given kept ≡ given
   unfolding lent
   all-lent [] given kept all = refl
@@ -152,6 +164,7 @@ asks qs a was is keeps =
       acceptance = λ b e. outcome-accepted qs a b e .0;
     }
 
+-- the first demand
 pub demand1 : Demand1
 unfolding writeOutcome writtenBuffer segmentsOutcome filledList queryOutcome querySlot readOutcome stepOutcome stepNext lookupOutcome
 demand1 =

@@ -2,11 +2,11 @@
 -- width in bytes, and one for log records and rows, which differ only in their mark and the width of their value.
 -- Assumes nothing.
 use Prim.Native.Nat.{ℕ, zero, suc, _+_, _-_, _*_, _/_, _%_, _^_, _≤_, _<_}
-use mathlib.Core.Bool.{Bool, true, false, _&&_, cond}
+use mathlib.Core.Bool.{true, _&&_}
 use mathlib.Core.List.{List, [], _∷_, _++_, append-assoc, List·Memᴰ, List·Memᴰ·head, List·Memᴰ·tail}
-use mathlib.Core.Path.{_≡_, refl, sym, ap, ap₂, subst, _∙_}
+use mathlib.Core.Path.{_≡_, refl, sym, ap, ap₂, _∙_}
 use native.Mathlib.Omega.{arith}
-use native.Mathlib.Nat.{add-zero, zero-add, pow-suc, div-lt-iff-lt-mul}
+use native.Mathlib.Nat.{add-zero, zero-add, pow-suc}
 use native.Mathlib.Numerals.{add-one, add-two}
 use lib.Dec.{leb, eqb}
 use lib.ListN.{length, getD, take, drop, replicate, length-append, length-replicate}
@@ -18,11 +18,37 @@ use Rattle.model.specs.Log.{recordLength, recordBytes, recordAt}
 use Rattle.model.specs.Blocks.{segmentAt}
 use Rattle.model.specs.Split.{mostRows}
 use Rattle.model.specs.Slot.{slotLength, rowBytes, rowsBytes, usedBytes, slotBytes, rowPlace, slotKind, slotCount, slotError, slotRow, slotRows}
-use Rattle.model.specs.Questions.{Question, accepted, ask, askRoom, marked, each, kindKnown, groupKnown, follows, inOrder, mostValue, rowKnown, rowQuestions, zeros, tailZero, slotQuestions}
+use Rattle.model.specs.Questions.{accepted, ask, askRoom, marked, each, kindKnown, groupKnown, inOrder, mostValue, rowKnown}
+use Rattle.model.specs.Questions.{rowQuestions, zeros, tailZero, slotQuestions}
 use Rattle.model.specs.Calls.{Header, readOutcome, readRows}
 use Rattle.model.specs.Demands.{AllPass, Bytes, Storable, Reads}
 use Rattle.theory.proofs.Tests.{and-true, true-and}
-use Rattle.theory.proofs.Refusals.{all-nil, all-cons, all-head, all-tail, all-append, all-left, all-right, all-each, all-at, all-outcome, all-lent, outcome-accepted}
+use Rattle.theory.proofs.Refusals.{all-nil, all-cons, all-head, all-tail, all-append, all-left, all-right, all-each, all-at}
+use Rattle.theory.proofs.Refusals.{all-outcome, all-lent, outcome-accepted}
+
+-- ---- lists by their elements
+
+-- what stands at an index within a list is one of its members
+member-at : {A : Type 0} (d : A) (l : List A) (i : ℕ) → i < length l → List·Memᴰ (getD l i d) l
+member-at d [] i lt = absurd (omega arith)
+member-at d (a ∷ l) zero lt = List·Memᴰ·head refl
+member-at d (a ∷ l) (suc i) lt = List·Memᴰ·tail (member-at d l i (omega arith))
+
+-- `listFrom` has as many elements as it counts
+pub length-listFrom : {A : Type 0} (from count : ℕ) (h : ℕ → A) → length (listFrom from count h) ≡ count
+unfolding listFrom
+length-listFrom from zero h = refl
+length-listFrom from (suc count) h = ap suc (length-listFrom (suc from) count h)
+
+-- a list is that of its elements
+pub listFrom-of : {A : Type 0} (d : A) (from : ℕ) (h : ℕ → A) (l : List A)
+    → ((i : ℕ) → i < length l → h (from + i) ≡ getD l i d) → listFrom from (length l) h ≡ l
+unfolding listFrom
+listFrom-of d from h [] e = refl
+listFrom-of {A} d from h (a ∷ l) e =
+    ap₂ {C = List A} _∷_ (rw add-zero at (e 0 (omega arith)))
+    (listFrom-of d (suc from) h l
+    (λ i lt. let same : suc from + i ≡ from + suc i = omega arith in rw same (e (suc i) (omega arith))))
 
 -- ---- bytes at a place
 
@@ -56,7 +82,7 @@ number-read zero x p bytes tail small e = omega arith
 number-read (suc count) x p bytes tail small e =
     let first : getD bytes p 0 ≡ x % 256 = byte-at p (x % 256) bytes _ e in
     let rest : numberAt count bytes (suc p) ≡ x / 256 =
-    number-read count (x / 256) (suc p) bytes tail (omega (arith, pow-suc 256 count)) (rw (← add-one p) (drop-further p 1 bytes _ e)) in
+    number-read count (x / 256) (suc p) bytes tail (omega (arith, pow-suc 256 count)) (rw add-one at (drop-further p 1 bytes _ e)) in
     omega arith
 
 -- the bytes of the number that stands at a place are those there
@@ -71,6 +97,7 @@ number-written (suc count) p bytes small fits =
     take-next count p bytes (omega arith)
     ∙ ap₂ {C = List ℕ} _∷_ low (number-written count (suc p) bytes small (omega arith) ∙ ap (bytesOf count) high)
 
+-- a number in `count` bytes has that many
 pub length-bytesOf : (count x : ℕ) → length (bytesOf count x) ≡ count
 unfolding bytesOf
 length-bytesOf zero x = refl
@@ -78,9 +105,11 @@ length-bytesOf (suc count) x = ap suc (length-bytesOf count (x / 256))
 
 -- ---- a mark and a span: a log record or a row
 
+-- the bytes of a span behind the mark a b, its value in `width` bytes
 unfoldable spanBytes : ℕ → ℕ → ℕ → Span ℕ → List ℕ
 spanBytes a b width r = a ∷ b ∷ r .group ∷ (bytesOf 2 (r .first) ++ bytesOf 2 (r .last) ++ bytesOf width (r .value))
 
+-- the span whose bytes begin at place p
 unfoldable spanAt : ℕ → List ℕ → ℕ → Span ℕ
 spanAt width bytes p =
     record {
@@ -97,6 +126,7 @@ pub record InBytes (width : ℕ) (r : Span ℕ) : Type 0 where
   pub value : r .value < 256 ^ width
 
 module _ (a b width : ℕ) where
+  -- a marked span's length
   length-span : (r : Span ℕ) → length (spanBytes a b width r) ≡ 7 + width
   unfolding spanBytes bytesOf
   length-span r = let e = length-bytesOf width (r .value) in omega arith
@@ -143,6 +173,7 @@ module _ (a b width : ℕ) where
 
 -- ---- log records
 
+-- a record's length
 pub length-recordBytes : (r : Span ℕ) → length (recordBytes r) ≡ recordLength
 unfolding recordBytes recordLength spanBytes
 length-recordBytes r = length-span 0x4C 0x44 2 r
@@ -156,10 +187,14 @@ record-read r before rest fits =
     (ap (λ (l : List ℕ). drop (length before) l) (append-assoc before (recordBytes r) rest)
     ∙ drop-append-seam before (recordBytes r ++ rest))
 
+-- ---- rows and slots
+
+-- a row's length
 pub length-rowBytes : (r : Span ℕ) → length (rowBytes r) ≡ 11
 unfolding rowBytes spanBytes
 length-rowBytes r = length-span 0x50 0x52 4 r
 
+-- the length of rows
 pub length-rowsBytes : (rows : List (Span ℕ)) → length (rowsBytes rows) ≡ 11 * length rows
 unfolding rowsBytes
 length-rowsBytes [] = refl
@@ -167,14 +202,15 @@ length-rowsBytes (r ∷ rows) =
     omega (arith, length-append (rowBytes r) (rowsBytes rows), length-rowBytes r, length-rowsBytes rows)
 
 module _ (kind error : ℕ) (rows : List (Span ℕ)) where
+  -- the length of header and rows
   pub length-usedBytes : length (usedBytes kind error rows) ≡ 12 + 11 * length rows
   unfolding usedBytes bytesOf
   length-usedBytes = omega (arith, length-rowsBytes rows)
 
+  -- a slot's length
   pub length-slotBytes : length rows ≤ mostRows → length (slotBytes kind error rows) ≡ slotLength
   unfolding slotBytes slotLength mostRows
-  length-slotBytes few =
-      omega (arith, length-append (usedBytes kind error rows) (replicate (768 - length (usedBytes kind error rows)) 0), length-replicate {A = ℕ} (768 - length (usedBytes kind error rows)) 0, length-usedBytes)
+  length-slotBytes few = simp (length-append, length-replicate, length-usedBytes) (omega arith)
 
 -- ---- what is written is read back
 
@@ -196,20 +232,6 @@ zeros-read (suc count) p bytes tail e =
     true-and _ _ (eq-eqb _ _ (byte-at p 0 bytes _ e))
     (zeros-read count (suc p) bytes tail (rw add-one at (drop-further p 1 bytes _ e)))
 
-member-at : {A : Type 0} (d : A) (l : List A) (i : ℕ) → i < length l → List·Memᴰ (getD l i d) l
-member-at d [] i lt = absurd (omega arith)
-member-at d (a ∷ l) zero lt = List·Memᴰ·head refl
-member-at d (a ∷ l) (suc i) lt = List·Memᴰ·tail (member-at d l i (omega arith))
-
--- a list is that of its elements
-pub listFrom-of : {A : Type 0} (d : A) (from : ℕ) (h : ℕ → A) (l : List A)
-    → ((i : ℕ) → i < length l → h (from + i) ≡ getD l i d) → listFrom from (length l) h ≡ l
-unfolding listFrom
-listFrom-of d from h [] e = refl
-listFrom-of {A} d from h (a ∷ l) e =
-    ap₂ {C = List A} _∷_ (rw add-zero at (e 0 (omega arith)))
-    (listFrom-of d (suc from) h l (λ i lt. let same : suc from + i ≡ from + suc i = omega arith in rw same (e (suc i) (omega arith))))
-
 -- a row that can be stored fits its bytes
 known-fits : (r : Span ℕ) → rowKnown r ≡ true → r .last < 2 ^ 16 → InBytes 4 r
 unfolding rowKnown mostValue
@@ -220,51 +242,58 @@ known-fits r known fits =
     let small = leb-true (r .value) mostValue (p .1) in
     record { first = omega arith; last = fits; value = omega arith }
 
-module _ (kind error : ℕ) (rows : List (Span ℕ)) (slot rest : List ℕ) (storable : Storable kind error rows)
-    (written : slot ≡ usedBytes kind error rows ++ (replicate (slotLength - (12 + 11 * length rows)) 0 ++ rest)) where
+-- a slot that begins with the bytes written
+module _ (kind error : ℕ) (rows : List (Span ℕ)) (slot tail : List ℕ) (storable : Storable kind error rows)
+    (written : slot ≡ usedBytes kind error rows ++ tail) where
+  -- the row count stands in the header
   count-read : slotCount slot ≡ length rows
   unfolding usedBytes slotCount
   count-read = byte-at 3 (length rows) slot _ (ap (λ (l : List ℕ). drop 3 l) written)
 
+  -- so does the kind
   kind-read : slotKind slot ≡ kind
   unfolding usedBytes slotKind
   kind-read = byte-at 2 kind slot _ (ap (λ (l : List ℕ). drop 2 l) written)
 
+  -- and the error
   error-read : slotError slot ≡ error
   unfolding usedBytes slotError
   error-read =
       number-read 8 error 4 slot _ (storable .error64)
       (ap (λ (l : List ℕ). drop 4 l) written ∙ append-assoc (bytesOf 8 error) (rowsBytes rows) _)
 
-  -- the rows' bytes from row i on
-  rows-at : (i : ℕ) → i ≤ length rows → drop (rowPlace i) slot
-      ≡ rowsBytes (drop i rows) ++ (replicate (slotLength - (12 + 11 * length rows)) 0 ++ rest)
+  -- the bytes from row i on, and at the end those behind the rows
+  rows-at : (i : ℕ) → i ≤ length rows → drop (rowPlace i) slot ≡ rowsBytes (drop i rows) ++ tail
   unfolding usedBytes bytesOf rowPlace
-  rows-at i le = rows-from 12 i rows slot _ le (ap (λ (l : List ℕ). drop 12 l) written)
+  rows-at i le = rows-from 12 i rows slot tail le (ap (λ (l : List ℕ). drop 12 l) written)
 
+  -- the bytes of row i, and those behind them
   row-at : (i : ℕ) → i < length rows
-      → drop (rowPlace i) slot ≡ rowBytes (segmentAt rows i)
-      ++ (rowsBytes (drop (suc i) rows) ++ (replicate (slotLength - (12 + 11 * length rows)) 0 ++ rest))
+      → drop (rowPlace i) slot ≡ rowBytes (segmentAt rows i) ++ (rowsBytes (drop (suc i) rows) ++ tail)
   unfolding rowsBytes segmentAt
   row-at i lt =
       rows-at i (omega arith)
-      ∙ rw (drop-cons rows i nowhere lt) (append-assoc (rowBytes (getD rows i nowhere)) (rowsBytes (drop (suc i) rows)) _)
+      ∙ rw (drop-cons rows i nowhere lt) (append-assoc (rowBytes (getD rows i nowhere)) (rowsBytes (drop (suc i) rows)) tail)
 
+  -- row i can be stored
   known-at : (i : ℕ) → i < length rows → (rowKnown (segmentAt rows i) ≡ true) × ((segmentAt rows i) .last < 2 ^ 16)
   unfolding segmentAt
   known-at i lt = storable .rowsKnown (segmentAt rows i) (member-at nowhere rows i lt)
 
+  -- row i is read back
   row-read : (i : ℕ) → i < length rows → slotRow slot i ≡ segmentAt rows i
   unfolding rowBytes slotRow spanBytes spanAt
   row-read i lt =
       span-read 0x50 0x52 4 (rowPlace i) (segmentAt rows i) slot _
       (known-fits (segmentAt rows i) (known-at i lt .0) (known-at i lt .1)) (row-at i lt)
 
+  -- the rows read back are in order
   order-read : (i : ℕ) → i < length rows → inOrder slot i ≡ true
   unfolding inOrder
   order-read zero lt = refl
   order-read (suc i) lt = rw (row-read (suc i) lt, row-read i (omega arith)) (storable .sorted i lt)
 
+  -- row i passes its questions
   row-passes : (i : ℕ) → i < length rows → AllPass (rowQuestions slot i)
   unfolding rowQuestions ask rowBytes spanBytes
   row-passes i lt =
@@ -272,49 +301,57 @@ module _ (kind error : ℕ) (rows : List (Span ℕ)) (slot rest : List ℕ) (sto
       all-cons _ _ (mark-read 0x50 0x52 4 (rowPlace i) (segmentAt rows i) slot _ (row-at i lt))
       (all-cons _ _ known (all-cons _ _ (order-read i lt) all-nil))
 
-  room-read : slotLength ≤ length slot
+  -- with zeros behind the rows the slot is long enough
+  room : (rest : List ℕ) → tail ≡ replicate (slotLength - (12 + 11 * length rows)) 0 ++ rest → slotLength ≤ length slot
   unfolding slotLength
-  room-read =
-      omega (arith, simp length-append at (ap length written), length-usedBytes kind error rows, length-replicate {A = ℕ} (768 - (12 + 11 * length rows)) 0)
+  room rest blank =
+      let zeros-count = length-replicate {A = ℕ} (768 - (12 + 11 * length rows)) 0 in
+      omega (arith, simp length-append at (ap length written), simp length-append at (ap length blank), length-usedBytes kind error rows)
 
-  end-read : tailZero slot ≡ true
+  -- and its tail is zero
+  end : (rest : List ℕ) → tail ≡ replicate (slotLength - (12 + 11 * length rows)) 0 ++ rest → tailZero slot ≡ true
   unfolding tailZero rowPlace rowsBytes
-  end-read =
+  end rest blank =
       rw count-read
       (zeros-read (slotLength - (12 + 11 * length rows)) (rowPlace (length rows)) slot rest
-      (rw (drop-length rows) at (rows-at (length rows) (omega arith))))
+      ((rw (drop-length rows) at (rows-at (length rows) (omega arith))) ∙ blank))
 
-  slot-passes : AllPass (slotQuestions slot)
+  -- so it passes every question
+  slot-passes : (rest : List ℕ) → tail ≡ replicate (slotLength - (12 + 11 * length rows)) 0 ++ rest
+      → AllPass (slotQuestions slot)
   unfolding slotQuestions ask askRoom usedBytes marked
-  slot-passes =
-      let few : slotCount slot ≤ mostRows = rw count-read (storable .count) in
+  slot-passes rest blank =
+      let mark = ap (λ (l : List ℕ). drop 1 l) written in
       let known : kindKnown (slotKind slot) ≡ true = rw kind-read (storable .known) in
-      all-cons _ _ (le-leb slotLength (length slot) room-read)
-      (all-cons _ _
-      (true-and _ _ (eq-eqb _ _ (byte-at 0 0x50 slot _ written)) (eq-eqb _ _ (byte-at 1 0x48 slot _ (ap (λ (l : List ℕ). drop 1 l) written))))
+      let few : slotCount slot ≤ mostRows = rw count-read (storable .count) in
+      all-cons _ _ (le-leb slotLength (length slot) (room rest blank))
+      (all-cons _ _ (true-and _ _ (eq-eqb _ _ (byte-at 0 0x50 slot _ written)) (eq-eqb _ _ (byte-at 1 0x48 slot _ mark)))
       (all-cons _ _ known
       (all-cons _ _ (le-leb _ _ few)
       (all-append _ _ (all-each _ _ _ (λ i a b. row-passes i (omega (arith, count-read))))
-      (all-cons _ _ end-read all-nil)))))
+      (all-cons _ _ (end rest blank) all-nil)))))
 
-  reads : Reads slot kind error rows
+  -- a slot that passes is read to the rows written
+  slot-reads : AllPass (slotQuestions slot) → Reads slot kind error rows
   unfolding readOutcome readRows slotRows segmentAt
-  reads =
+  slot-reads all =
       record {
-        header =
-            all-outcome (slotQuestions slot) _ slot-passes
-            ∙ rw (kind-read, error-read, count-read);
+        header = all-outcome (slotQuestions slot) _ all ∙ rw (kind-read, error-read, count-read);
         body =
-            all-lent (slotQuestions slot) (slotRows slot) [] slot-passes
+            all-lent (slotQuestions slot) (slotRows slot) [] all
             ∙ rw count-read (listFrom-of nowhere 0 (slotRow slot) rows (λ i lt. rw (zero-add i) (row-read i lt)));
       }
 
+-- what is written into a slot is read back
 pub round-trip : (kind error : ℕ) (rows : List (Span ℕ)) (rest : List ℕ) → Storable kind error rows
     → Reads (slotBytes kind error rows ++ rest) kind error rows
 unfolding slotBytes
 round-trip kind error rows rest storable =
-    reads kind error rows (slotBytes kind error rows ++ rest) rest storable
-    (rw (length-usedBytes kind error rows) (append-assoc (usedBytes kind error rows) _ rest))
+    let tail = replicate (slotLength - length (usedBytes kind error rows)) 0 ++ rest in
+    let written = append-assoc (usedBytes kind error rows) _ rest in
+    slot-reads kind error rows (slotBytes kind error rows ++ rest) tail storable written
+    (slot-passes kind error rows (slotBytes kind error rows ++ rest) tail storable written rest
+    (rw (length-usedBytes kind error rows)))
 
 -- ---- an accepted slot is its own layout
 
@@ -328,30 +365,40 @@ zeros-written (suc count) p bytes fits e =
     take-next count p bytes (omega arith)
     ∙ ap₂ {C = List ℕ} _∷_ (eqb-true _ _ (both .0)) (zeros-written count (suc p) bytes (omega arith) (both .1))
 
-pub length-listFrom : {A : Type 0} (from count : ℕ) (h : ℕ → A) → length (listFrom from count h) ≡ count
-unfolding listFrom
-length-listFrom from zero h = refl
-length-listFrom from (suc count) h = ap suc (length-listFrom (suc from) count h)
-
--- the slot passes its questions from 13 on
-slot-tail : (slot : List ℕ) → AllPass (slotQuestions slot)
-    → AllPass (each (rowQuestions slot) 0 (slotCount slot) ++ (ask 17 0 (tailZero slot) ∷ []))
-unfolding slotQuestions
-slot-tail slot all = all-tail _ _ (all-tail _ _ (all-tail _ _ (all-tail _ _ all)))
-
-module _ (slot : List ℕ) (small : Bytes slot) (all : AllPass (slotQuestions slot)) where
-  room-passed : 768 ≤ length slot
+-- what a slot that passes its questions has: room, at most 64 rows, and the rest of the questions passed
+module _ (slot : List ℕ) (all : AllPass (slotQuestions slot)) where
+  -- it is long enough
+  pub room-passed : 768 ≤ length slot
   unfolding slotQuestions askRoom ask slotLength
   room-passed = leb-true 768 (length slot) (all-head _ _ all)
 
-  few-passed : slotCount slot ≤ 64
+  -- it has at most 64 rows
+  pub few-passed : slotCount slot ≤ 64
   unfolding slotQuestions ask mostRows
   few-passed = leb-true (slotCount slot) 64 (all-head _ _ (all-tail _ _ (all-tail _ _ (all-tail _ _ all))))
 
+  -- it passes the questions behind 13
+  slot-tail : AllPass (each (rowQuestions slot) 0 (slotCount slot) ++ (ask 17 0 (tailZero slot) ∷ []))
+  unfolding slotQuestions
+  slot-tail = all-tail _ _ (all-tail _ _ (all-tail _ _ (all-tail _ _ all)))
+
+  -- each row passes its own
+  pub rows-passed : (i : ℕ) → i < slotCount slot → AllPass (rowQuestions slot i)
+  rows-passed i lt =
+      all-at (rowQuestions slot) 0 (slotCount slot) (all-left _ _ slot-tail) i (omega arith) (omega arith)
+
+  -- its tail is zero
+  pub end-passed : tailZero slot ≡ true
+  unfolding ask
+  end-passed = all-head _ _ (all-right (each (rowQuestions slot) 0 (slotCount slot)) _ slot-tail)
+
+-- piece by piece, its bytes are those of what it says
+module _ (slot : List ℕ) (small : Bytes slot) (all : AllPass (slotQuestions slot)) where
+  -- the header
   header-written : take 12 slot ≡ 0x50 ∷ 0x48 ∷ slotKind slot ∷ slotCount slot ∷ bytesOf 8 (slotError slot)
   unfolding slotQuestions ask marked slotKind slotCount slotError
   header-written =
-      let room = room-passed in
+      let space = room-passed slot all in
       let mark = and-true (eqb (getD slot 0 0) 0x50) (eqb (getD slot 1 0) 0x48) (all-head _ _ (all-tail _ _ all)) in
       take-more 4 8 0 slot
       ∙ ap₂ {C = List ℕ} _++_
@@ -363,15 +410,16 @@ module _ (slot : List ℕ) (small : Bytes slot) (all : AllPass (slotQuestions sl
       ∙ ap (λ (l : List ℕ). getD slot 2 0 ∷ l) (take-next 0 3 slot (omega arith)))))
       (number-written 8 4 slot small (omega arith))
 
+  -- a row
   row-written : (i : ℕ) → i < slotCount slot → take 11 (drop (rowPlace i) slot) ≡ rowBytes (slotRow slot i)
   unfolding rowBytes slotRow spanBytes spanAt rowQuestions ask rowPlace
   row-written i lt =
-      let room = room-passed in
-      let few = few-passed in
+      let space = room-passed slot all in
+      let few = few-passed slot all in
       span-written 0x50 0x52 4 (rowPlace i) slot small (omega arith)
-      (all-head _ _
-      (all-at (rowQuestions slot) 0 (slotCount slot) (all-left _ _ (slot-tail slot all)) i (omega arith) (omega arith)))
+      (all-head _ _ (rows-passed slot all i lt))
 
+  -- the rows from i on
   rows-written : (count i : ℕ) → i + count ≤ slotCount slot
       → take (11 * count) (drop (rowPlace i) slot) ≡ rowsBytes (listFrom i count (slotRow slot))
   unfolding listFrom rowsBytes rowPlace
@@ -384,6 +432,7 @@ module _ (slot : List ℕ) (small : Bytes slot) (all : AllPass (slotQuestions sl
       ∙ ap₂ {C = List ℕ} _++_ (row-written i (omega arith))
       (ap (λ (p : ℕ). take (11 * count) (drop p slot)) next ∙ rows-written count (suc i) (omega arith)))
 
+  -- header and rows
   used-written : take (rowPlace (slotCount slot)) slot ≡ usedBytes (slotKind slot) (slotError slot) (slotRows slot)
   unfolding usedBytes slotRows rowPlace
   used-written =
@@ -391,21 +440,22 @@ module _ (slot : List ℕ) (small : Bytes slot) (all : AllPass (slotQuestions sl
       ∙ ap₂ {C = List ℕ} _++_ header-written (rows-written (slotCount slot) 0 (omega arith))
       ∙ rw (length-listFrom 0 (slotCount slot) (slotRow slot))
 
+  -- the whole slot
   slot-written : take slotLength slot ≡ slotBytes (slotKind slot) (slotError slot) (slotRows slot)
-  unfolding slotBytes slotLength slotRows rowPlace tailZero ask
+  unfolding slotBytes slotLength slotRows rowPlace tailZero
   slot-written =
-      let room = room-passed in
-      let few = few-passed in
+      let space = room-passed slot all in
+      let few = few-passed slot all in
       let place = rowPlace (slotCount slot) in
       let whole : 768 ≡ place + (768 - place) = omega arith in
-      let zero-tail : tailZero slot ≡ true = all-head _ _ (all-right (each (rowQuestions slot) 0 (slotCount slot)) _ (slot-tail slot all)) in
       let used : length (usedBytes (slotKind slot) (slotError slot) (slotRows slot)) ≡ place =
       rw (length-usedBytes _ _ (slotRows slot), length-listFrom 0 (slotCount slot) (slotRow slot)) in
       ap (λ (k : ℕ). take k slot) whole
       ∙ take-add place (768 - place) slot
-      ∙ ap₂ {C = List ℕ} _++_ used-written (zeros-written (768 - place) place slot (omega arith) zero-tail)
+      ∙ ap₂ {C = List ℕ} _++_ used-written (zeros-written (768 - place) place slot (omega arith) (end-passed slot all))
       ∙ rw used
 
+-- an accepted slot is the layout of what is read from it
 pub layout : (slot : List ℕ) (header : Header) → Bytes slot → readOutcome slot ≡ accepted header
     → take slotLength slot ≡ slotBytes (header .kind) (header .error) (readRows slot)
 unfolding readOutcome readRows
