@@ -150,12 +150,21 @@ abbrev pub NoRows : Bound → (ℕ → ℕ → Option ℕ) → Type 0
 NoRows (Rows c) val = (rows : List (Span ℤ)) → Fits val rows → length rows ≤ c → ⊥
 NoRows (Share p) val = (rows : List (Span ℤ)) → Fits val rows → length rows ≤ mostRows → Exceeds val p rows
 
+-- the slot is read to rows and an error that are the paper's answer to the query, and best
+pub record BestSlot (q : Query) (log slot : List ℕ) : Type 0 where
+  pub error : ℕ
+  pub rows : List (Span ℕ)
+  pub reads : Reads slot (q .kind) error rows
+  pub answerError : error ≡ (answerOf q log) .error
+  pub answerRows : rows ≡ (answerOf q log) .rows
+  pub best : BestRows (q .bound) (value (q .kind) (records log)) error (map whole rows)
+
+-- 'too few rows' is said exactly where no rows do
+abbrev pub SaysTooFew : Query → List ℕ → Outcome Counts → Type 0
+SaysTooFew q log says = (says ≡ refused 10 0) ↔ NoRows (q .bound) (value (q .kind) (records log))
+
 pub record Demand3 : Type 0 where
-  -- the slot of an accepted query is read to rows and an error that are the paper's answer and best
   pub best : (q : Query) (log slot : List ℕ) (counts : Counts) → queryOutcome q log (length slot) ≡ accepted counts
-      → (error : ℕ) × (rows : List (Span ℕ)) × Reads (querySlot q log slot) (q .kind) error rows
-      × (error ≡ (answerOf q log) .error) × (rows ≡ (answerOf q log) .rows)
-      × BestRows (q .bound) (value (q .kind) (records log)) error (map whole rows)
-  -- 'too few rows' is said exactly where no rows do
+      → BestSlot q log (querySlot q log slot)
   pub tooFew : (q : Query) (log slot : List ℕ) → slotLength ≤ length slot → AllPass (orderQuestions q log)
-      → (queryOutcome q log (length slot) ≡ refused 10 0) ↔ NoRows (q .bound) (value (q .kind) (records log))
+      → SaysTooFew q log (queryOutcome q log (length slot))

@@ -7,14 +7,14 @@ use mathlib.Core.Logic.{_↔_}
 use mathlib.Core.Option.{Option, none, some, Option·getD}
 use mathlib.Core.Path.{_≡_, refl, sym, ap, _∙_, subst}
 use native.Mathlib.Decide.{decLe}
-use native.Mathlib.Nat.{le-refl, mul-le-mul-left, zero-add}
+use native.Mathlib.Nat.{le-refl, mul-le-mul-left}
 use native.Mathlib.Omega.{arith}
 use lib.Dec.{leb}
 use lib.IntN.{ℤ, pos}
 use lib.ListN.{length, length-map}
 use borrow.Author.Tests.{leb-true, leb-false, le-leb}
-use Rattle.model.specs.Common.{listFrom, isSome}
-use Rattle.model.specs.Spans.{Span, groupCount, frameCount, nowhere}
+use Rattle.model.specs.Common.{isSome}
+use Rattle.model.specs.Spans.{Span, groupCount, frameCount}
 use Rattle.model.specs.Log.{value}
 use Rattle.model.specs.Segments.{segments}
 use Rattle.model.specs.Blocks.{segmentAt, lastGap, runsTo, block, rowOf, blockError, errorWith}
@@ -25,7 +25,6 @@ use Rattle.model.specs.Demands.{Cut, Reduces, whole, BestOfLimit, BestOfShare, 
 use Rattle.model.specs.declared.Bound.{Bound}
 use Rattle.model.specs.declared.Bound.the-variants.{Rows, Share}
 use Rattle.theory.proofs.Tests.{cases, true≢false}
-use Rattle.theory.proofs.SlotLaws.{listFrom-of}
 use Rattle.theory.proofs.Frames.{value-inside}
 use Rattle.theory.proofs.Cost.{Cost, costOf, errorIn, bestRow, bestRows, errorUnder}
 use Rattle.theory.proofs.Blocks.{wider}
@@ -34,6 +33,7 @@ use Rattle.theory.proofs.Table.{none≢some, some-inj, sound, cutsOf-le
 use Rattle.theory.proofs.Choice.{runs-le, runsTo-le, errors-some, least-of, limit-answer, share-answer, share-none, first-some}
 use Rattle.theory.proofs.Converse.{fits, error, count}
 use Rattle.theory.proofs.Cutting.{no-better}
+use Rattle.theory.proofs.Bounds.{by-number}
 
 -- the most rows that answer a bound
 abbrev pub limitOf : Bound → ℕ
@@ -93,10 +93,6 @@ whole-rows seg i [] = refl
 whole-rows seg i (j ∷ js) =
     map-append whole (rowsOf seg j js) (rowOf seg j i ∷ [])
     ∙ ap (λ l. l ++ (bestRow squares seg j i ∷ [])) (whole-rows seg j js)
-
-pub by-number : (segs : List (Span ℕ)) → listFrom 0 (length segs) (segmentAt segs) ≡ segs
-unfolding segmentAt
-by-number segs = listFrom-of nowhere 0 (segmentAt segs) segs (λ i lt. rw zero-add)
 
 module _ (kind : ℕ) (rs : List (Span ℕ)) where
   abbrev val : ℕ → ℕ → Option ℕ

@@ -1,9 +1,10 @@
 -- The demands, proved. What each says stands in `specs/Demands.antt` of the crate `model`. Assumes nothing.
 use Prim.Native.Nat.{ℕ, zero, suc, _+_, _*_, _^_, _≤_, _<_}
 use mathlib.Core.Bool.{Bool, true, false}
-use mathlib.Core.List.{List, [], _∷_, _++_, map, List·Memᴰ}
+use mathlib.Core.List.{List, [], _∷_, _++_, List·Memᴰ}
 use mathlib.Core.Option.{Option, none, some, Option·getD}
 use mathlib.Core.Path.{_≡_, refl, sym, ap, _∙_, subst}
+use native.Mathlib.Nat.{le-refl}
 use native.Mathlib.Omega.{arith}
 use lib.ListN.{length, drop}
 use borrow.Author.Tests.{leb-true}
@@ -17,7 +18,7 @@ use Rattle.model.specs.Reductions.{IsReduction, reductionError}
 use Rattle.model.specs.Slot.{slotLength, slotBytes}
 use Rattle.model.specs.Questions.{Outcome, accepted, refused, ask, kindKnown, boundKnown, rowKnown, mostValue, logQuestions, orderQuestions, queryQuestions, enoughRows}
 use Rattle.model.specs.Calls.{Counts, logSegments, answerOf, queryOutcome, querySlot}
-use Rattle.model.specs.Demands.{AllPass, Demand1, Demand2, Demand3, Cut, Reduces, Storable, Reads, BestRows, whole}
+use Rattle.model.specs.Demands.{AllPass, Demand1, Demand2, Demand3, Cut, Reduces, Storable, Reads, BestSlot}
 use Rattle.model.specs.declared.Bound.{Bound}
 use Rattle.model.specs.declared.Bound.the-variants.{Rows, Share}
 use Rattle.model.specs.declared.Query.{Query}
@@ -27,6 +28,8 @@ use Rattle.theory.proofs.SlotLaws.{round-trip, layout}
 use Rattle.theory.proofs.Frames.{segmentation}
 use Rattle.theory.proofs.Count.{segment-count}
 use Rattle.theory.proofs.Conserved.{conserved}
+use Rattle.theory.proofs.Bounds.{sound-records, logs-measured, reduction-error-le, most-error}
+use Rattle.theory.proofs.Stored.{rows-length, rows-known, rows-sorted}
 use Rattle.theory.proofs.Answer.{limitOf, answer-reduces, best-rows, some-count, count-le, too-few-rows}
 
 -- Demand 1
@@ -68,6 +71,16 @@ answered q log enough =
       count = size;
     }
 
+is-reduction : (bound : Bound) (segs : List (Span ℕ)) (cuts : List ℕ) → Reduces bound segs cuts
+    → IsReduction (gapBelow segs) (length segs) cuts
+is-reduction (Rows c) segs cuts b = b .isReduction
+is-reduction (Share p) segs cuts b = b .isReduction
+
+limit-le : (bound : Bound) → boundKnown bound ≡ true → limitOf bound ≤ mostRows
+unfolding boundKnown
+limit-le (Rows c) h = leb-true c mostRows h
+limit-le (Share p) h = le-refl mostRows
+
 -- ---- what the slot of an accepted query holds
 
 module _ (q : Query) (log slot : List ℕ) (counts : Counts) (ok : queryOutcome q log (length slot) ≡ accepted counts) where
@@ -83,24 +96,44 @@ module _ (q : Query) (log slot : List ℕ) (counts : Counts) (ok : queryOutcome 
   slot-written = all-lent _ _ _ (outcome-accepted _ _ counts ok .0)
 
   storable : Storable (q .kind) ((answerOf q log) .error) ((answerOf q log) .rows)
-  storable = ?
+  unfolding orderQuestions logSegments ask
+  storable =
+      let (room, order, enough, same) = accepted-query q log (length slot) counts ok in
+      let logged : AllPass (logQuestions log) = all-tail _ _ (all-tail _ _ order) in
+      let (few, small) = sound-records log logged in
+      let loads : (r : Span ℕ) → List·Memᴰ r (records log) → r .value ≤ 1000 = λ r m. small r m .2 in
+      let is : IsReduction (gapBelow segs) (length segs) (a .cuts) = is-reduction (q .bound) segs (a .cuts) (a .reduces) in
+      let size = rows-length (segmentAt segs) (length segs) (a .cuts) in
+      let limit = limit-le (q .bound) (all-head _ _ (all-tail _ _ order)) in
+      let at-most = count-le (q .kind) (records log) (q .bound) (a .rows) (a .counted) in
+      let counted = a .count in
+      record {
+        known = all-head _ _ order;
+        error64 =
+            rw (a .cut .error)
+            (let le = reduction-error-le segs (logs-measured (q .kind) log logged) (gapBelow segs) (length segs) (a .cuts) (le-refl _) is in
+            let most = most-error .0 in
+            omega arith);
+        count = rw (a .cut .rows) (omega arith);
+        rowsKnown = rw (a .cut .rows) (rows-known (q .kind) (records log) few loads (a .cuts) is);
+        sorted = rw (a .cut .rows) (rows-sorted (q .kind) (records log) few loads (a .cuts) is);
+      }
 
   pub reads-back : Reads (querySlot q log slot) (q .kind) ((answerOf q log) .error) ((answerOf q log) .rows)
   reads-back =
       rw slot-written (round-trip (q .kind) ((answerOf q log) .error) ((answerOf q log) .rows) (drop slotLength slot) storable)
 
-  pub best : (error : ℕ) × (rows : List (Span ℕ)) × Reads (querySlot q log slot) (q .kind) error rows
-      × (error ≡ (answerOf q log) .error) × (rows ≡ (answerOf q log) .rows)
-      × BestRows (q .bound) (value (q .kind) (records log)) error (map whole rows)
+  pub best : BestSlot q log (querySlot q log slot)
   unfolding logSegments
-  best = (
-    (answerOf q log) .error,
-    (answerOf q log) .rows,
-    reads-back,
-    refl,
-    refl,
-    rw (a .cut .error, a .cut .rows) (best-rows (q .kind) (records log) (q .bound) (a .cuts) (a .reduces)),
-  )
+  best =
+      record {
+        error = (answerOf q log) .error;
+        rows = (answerOf q log) .rows;
+        reads = reads-back;
+        answerError = refl;
+        answerRows = refl;
+        best = rw (a .cut .error, a .cut .rows) (best-rows (q .kind) (records log) (q .bound) (a .cuts) (a .reduces));
+      }
 
 -- Demand 2
 pub demand2 : Demand2

@@ -14,6 +14,8 @@ pub mod Converse
 pub mod Exchange
 pub mod Labels
 pub mod Cutting
+pub mod Bounds
+pub mod Stored
 pub mod Answer
 pub mod Demands
 pub mod Conserved
