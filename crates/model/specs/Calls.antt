@@ -4,18 +4,20 @@ use Prim.Native.Nat.{ℕ, suc}
 use mathlib.Core.Bool.{Bool, true, false, cond}
 use mathlib.Core.List.{List, [], _∷_, _++_, map}
 use mathlib.Core.Option.{Option, none, some, Option·getD}
-use lib.Dec.{ltb}
+use lib.Dec.{ltb, eqb}
 use lib.ListN.{length, drop}
 use Rattle.model.specs.Spans.{Span}
 use Rattle.model.specs.Log.{recordLength, recordBytes, records}
 use Rattle.model.specs.Segments.{segments}
 use Rattle.model.specs.Split.{Reduced, reduced}
 use Rattle.model.specs.Slot.{slotLength, slotBytes, slotKind, slotCount, slotError, slotRow, slotRows, valueIn}
-use Rattle.model.specs.Questions.{Question, Outcome, refused, accepted, outcome, lent}
+use Rattle.model.specs.Questions.{Question, ask, askRoom, kindKnown, Outcome, refused, accepted, outcome, lent}
 use Rattle.model.specs.Questions.{writeQuestions, segmentsQuestions, queryQuestions, slotQuestions, lookupQuestions}
 use Rattle.model.specs.declared.Record.{Record}
 use Rattle.model.specs.declared.Segment.{Segment}
 use Rattle.model.specs.declared.Row.{Row}
+use Rattle.model.specs.declared.Bound.{Bound}
+use Rattle.model.specs.declared.Bound.the-variants.{Rows, Share}
 use Rattle.model.specs.declared.Query.{Query}
 use Rattle.model.specs.declared.Asked.{Asked}
 use Rattle.model.specs.declared.Asked.the-variants as asked
@@ -109,6 +111,27 @@ querySlot q log slot =
     lent (queryQuestions q log (length slot))
     (slotBytes (q .kind) ((answerOf q log) .error) ((answerOf q log) .rows) ++ drop slotLength slot)
     slot
+
+-- A query whose bound is given by a letter and a number: 52 for a row limit, 45 for a share. Any other letter is question 3's
+-- 'no'.
+
+unfoldable pub boundOf : ℕ → ℕ → Option Bound
+boundOf letter x = cond (eqb letter 0x52) (some (Rows x)) (cond (eqb letter 0x45) (some (Share x)) none)
+
+unfoldable pub letterQuestions : ℕ → ℕ → List Question
+letterQuestions kind room = askRoom slotLength room ∷ ask 2 0 (kindKnown kind) ∷ ask 3 0 false ∷ []
+
+unfoldable pub letterOutcome : ℕ → ℕ → ℕ → List ℕ → ℕ → Outcome Counts
+letterOutcome kind letter x log room =
+    elim (boundOf letter x) [
+      | none ↦ outcome (letterQuestions kind room) (record { rows = 0; error = 0; weighed = 0 })
+      | some bound ↦ queryOutcome (record { kind = kind; bound = bound }) log room
+    ]
+
+unfoldable pub letterSlot : ℕ → ℕ → ℕ → List ℕ → List ℕ → List ℕ
+letterSlot kind letter x log slot =
+    elim (boundOf letter x)
+    [ none ↦ slot | some bound ↦ querySlot (record { kind = kind; bound = bound }) log slot ]
 
 -- The reader: kind, error and row count, and the rows beside them.
 
