@@ -11,9 +11,9 @@ use lib.ListN.{length, getD, take}
 use Rattle.model.specs.Common.{sumOf}
 use Rattle.model.specs.Spans.{Span, spanLength, adjacent}
 use Rattle.model.specs.Log.{records, value}
-use Rattle.model.specs.Blocks.{segmentAt}
+use Rattle.model.specs.Blocks.{segmentAt, gap}
 use Rattle.model.specs.Split.{Reduced, errorOf, gapBelow, runs, rowsOf, mostRows}
-use Rattle.model.specs.Reductions.{BestWithin, FewestWithin, reductionError}
+use Rattle.model.specs.Reductions.{IsReduction, Merges, BestWithin, FewestWithin, reductionError}
 use Rattle.model.specs.Slot.{slotLength, slotBytes}
 use Rattle.model.specs.Questions.{Question, Outcome, refused, accepted, kindKnown, rowKnown, follows}
 use Rattle.model.specs.Questions.{logQuestions, orderQuestions, writeQuestions, segmentsQuestions, queryQuestions, slotQuestions, lookupQuestions, mostSegments}
@@ -66,14 +66,18 @@ pub record Demand1 : Type 0 where
 abbrev pub Before : Span ℕ → Span ℕ → Type 0
 Before s t = (s .group < t .group) ⊎ ((s .group ≡ t .group) × (s .last < t .first))
 
--- the spans are the longest stretches of covered frames of one group with equal value, in order
+-- the spans are the longest stretches of consecutive covered frames of one group with equal value, in order, so that
+-- neighbours in a run differ in value
 pub record Segmentation (val : ℕ → ℕ → Option ℕ) (segs : List (Span ℕ)) : Type 0 where
   pub ordered : (s : Span ℕ) → List·Memᴰ s segs → s .first ≤ s .last
   pub constant : (s : Span ℕ) → List·Memᴰ s segs → (f : ℕ) → s .first ≤ f → f ≤ s .last
       → val (s .group) f ≡ some (s .value)
   pub exact : (g f : ℕ) → hits segs g f ≡ due (val g f)
   pub sorted : (i : ℕ) → suc i < length segs → Before (segmentAt segs i) (segmentAt segs (suc i))
-  pub longest : (i : ℕ) → suc i < length segs → adjacent (segmentAt segs i) (segmentAt segs (suc i)) ≡ true
+  pub longest : (s : Span ℕ) → List·Memᴰ s segs
+      → (val (s .group) (suc (s .last)) ≡ some (s .value) → ⊥)
+      × ((f : ℕ) → suc f ≡ s .first → val (s .group) f ≡ some (s .value) → ⊥)
+  pub differ : (i : ℕ) → suc i < length segs → adjacent (segmentAt segs i) (segmentAt segs (suc i)) ≡ true
       → (segmentAt segs i) .value ≡ (segmentAt segs (suc i)) .value → ⊥
 
 -- the rows and error of a reduction with these cuts
@@ -108,6 +112,9 @@ pub record Demand2 : Type 0 where
   pub conserved : (log : List ℕ) → Bytes log → AllPass (logQuestions log)
       → sumOf (λ s. spanLength s * s .value) (logSegments 0 log)
       ≡ sumOf (λ r. spanLength r * r .value) (records log)
+  pub merging : (kind : ℕ) (log cuts : List ℕ)
+      → IsReduction (gapBelow (logSegments kind log)) (length (logSegments kind log)) cuts
+      ↔ Merges (gap (segmentAt (logSegments kind log))) (length (logSegments kind log)) cuts
   pub reduction : (q : Query) (log : List ℕ) (room : ℕ) (counts : Counts) → queryOutcome q log room ≡ accepted counts
       → (cuts : List ℕ) × Cut (logSegments (q .kind) log) (answerOf q log) cuts
       × Reduces (q .bound) (logSegments (q .kind) log) cuts × (countsOf (answerOf q log) ≡ counts)

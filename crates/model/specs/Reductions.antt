@@ -2,7 +2,8 @@
 -- and what the paper's answer is among them. A reduction of the first i segments is given by the numbers of its blocks'
 -- first segments, the last block's first; `err` and `low` are as for the split table.
 use Prim.Native.Nat.{ℕ, zero, suc, _+_, _*_, _≤_, _<_}
-use mathlib.Core.List.{List, [], _∷_}
+use mathlib.Core.Bool.{Bool, false}
+use mathlib.Core.List.{List, [], _∷_, _++_}
 use mathlib.Core.Logic.{_⊎_}
 use mathlib.Core.Path.{_≡_}
 use lib.ListN.{length}
@@ -11,6 +12,19 @@ use lib.ListN.{length}
 abbrev pub IsReduction : (ℕ → ℕ) → ℕ → List ℕ → Type 0
 IsReduction low i [] = i ≡ 0
 IsReduction low i (j ∷ js) = (j < i) × (low i ≤ j) × IsReduction low j js
+
+-- every segment a block of its own: n − 1, .., 1, 0
+unfoldable pub unmerged : ℕ → List ℕ
+unmerged zero = []
+unmerged (suc n) = n ∷ unmerged n
+
+-- Definition 4: two adjacent tuples are substituted by the merged tuple, any number of times, from all n segments on. Two
+-- neighbouring blocks are adjacent if the later one's first segment, j, is no gap. The merged block begins where the earlier
+-- one does: j is struck out.
+pub data Merges (gap : ℕ → Bool) (n : ℕ) : List ℕ → Type 0 where
+  start : {cuts : List ℕ} → cuts ≡ unmerged n → Merges gap n cuts
+  merge : {cuts : List ℕ} (before : List ℕ) (j : ℕ) (after : List ℕ) → Merges gap n (before ++ (j ∷ after))
+      → gap j ≡ false → cuts ≡ before ++ after → Merges gap n cuts
 
 -- the sum of the blocks' errors
 unfoldable pub reductionError : (ℕ → ℕ → ℕ) → ℕ → List ℕ → ℕ

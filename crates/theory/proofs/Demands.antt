@@ -28,6 +28,7 @@ use Rattle.theory.proofs.SlotLaws.{round-trip, layout}
 use Rattle.theory.proofs.Frames.{segmentation}
 use Rattle.theory.proofs.Count.{segment-count}
 use Rattle.theory.proofs.Conserved.{conserved}
+use Rattle.theory.proofs.Merging.{merging}
 use Rattle.theory.proofs.Bounds.{sound-records, logs-measured, reduction-error-le, most-error}
 use Rattle.theory.proofs.Stored.{rows-length, rows-known, rows-sorted}
 use Rattle.theory.proofs.Answer.{limitOf, answer-reduces, best-rows, some-count, count-le, too-few-rows}
@@ -137,12 +138,13 @@ module _ (q : Query) (log slot : List ℕ) (counts : Counts) (ok : queryOutcome 
 
 -- Demand 2
 pub demand2 : Demand2
-unfolding logSegments
+unfolding logSegments gapBelow
 demand2 =
     record {
       segmentation = λ kind log. segmentation kind (records log);
       count = segment-count;
       conserved = conserved;
+      merging = λ kind log. merging (segmentAt (logSegments kind log)) (length (logSegments kind log));
       reduction = λ q log room counts ok.
           let (fits, order, enough, same) = accepted-query q log room counts ok in
           let found = answered q log enough in

@@ -2,7 +2,7 @@
 -- that adds up where spans are joined has the same sum over the segments as over the covered frames. Assumes nothing.
 use Prim.Native.Nat.{ℕ, zero, suc, _+_, _*_, _-_, _≤_, _<_}
 use mathlib.Core.Bool.{Bool, true, false, _&&_, cond}
-use mathlib.Core.List.{List, [], _∷_, foldr, List·Memᴰ, List·Memᴰ·cases-cons}
+use mathlib.Core.List.{List, [], _∷_, foldr, List·Memᴰ, List·Memᴰ·head, List·Memᴰ·tail, List·Memᴰ·cases-cons}
 use mathlib.Core.Logic.{_⊎_, inl, inr, ⊎-elim}
 use mathlib.Core.Option.{Option, none, some}
 use mathlib.Core.Path.{_≡_, refl, sym, ap, _∙_, subst}
@@ -18,7 +18,7 @@ use Rattle.model.specs.Segments.{join, fuse, place, framesFrom, groupsFrom, seg
 use Rattle.model.specs.Blocks.{segmentAt}
 use Rattle.model.specs.Fitting.{hits, due, overFrames}
 use Rattle.model.specs.Demands.{Segmentation}
-use Rattle.theory.proofs.Tests.{true≢false, cases, and-true, holds-true, true-holds, false-holds, adjacent-true}
+use Rattle.theory.proofs.Tests.{true≢false, cases, and-true, is-false, holds-true, true-holds, false-holds, adjacent-true, true-adjacent}
 use Rattle.theory.proofs.Sums.{overFrames-cong, overFrames-sumOf, overFrames-holds}
 
 -- ---- chains: a property of each element of a list, and a relation between neighbours
@@ -57,6 +57,25 @@ module _ {A : Type 0} (P : A → Type 0) (R : A → A → Type 0) where
   chain-neighbours (a ∷ b ∷ l) c d zero h = c .1
   chain-neighbours (a ∷ b ∷ l) c d (suc i) h = chain-neighbours (b ∷ l) (c .2) d i (omega arith)
 
+  module _ (trans : (a b c : A) → P b → R a b → R b c → R a c) where
+    -- where the relation is transitive, the first element is related to all others, and any two members are related
+    chain-later : (a : A) (l : List A) → Heads (R a) l → Chain P R l → (b : A) → List·Memᴰ b l → R a b
+    chain-later a [] h c b m = elim m [ ]
+    chain-later a (d ∷ l) h c b m =
+        ⊎-elim (λ e. subst (R a) (sym e) h) (λ n. chain-later a l (heads-map l (λ x r. trans a d x (c .0) h r) (c .1)) (c .2) b n)
+        (List·Memᴰ·cases-cons m)
+
+    pub chain-members : (l : List A) → Chain P R l → (a b : A) → List·Memᴰ a l → List·Memᴰ b l → (a ≡ b) ⊎ (R a b ⊎ R b a)
+    chain-members [] c a b m n = elim m [ ]
+    chain-members (d ∷ l) c a b m n = by (List·Memᴰ·cases-cons m) (List·Memᴰ·cases-cons n) (chain-members l (c .2) a b)
+      where
+        by : (a ≡ d) ⊎ List·Memᴰ a l → (b ≡ d) ⊎ List·Memᴰ b l
+            → (List·Memᴰ a l → List·Memᴰ b l → (a ≡ b) ⊎ (R a b ⊎ R b a)) → (a ≡ b) ⊎ (R a b ⊎ R b a)
+        by (inl e) (inl f) ih = inl (e ∙ sym f)
+        by (inl e) (inr n) ih = inr (inl (rw e (chain-later d l (c .1) (c .2) b n)))
+        by (inr m) (inl f) ih = inr (inr (rw f (chain-later d l (c .1) (c .2) a m)))
+        by (inr m) (inr n) ih = ih m n
+
 -- ---- spans of one frame, and what they weigh
 
 -- the span of frame f of group g alone
@@ -75,6 +94,15 @@ hits-sum [] g f = refl
 hits-sum (s ∷ l) g f =
     let ih = hits-sum l g f in
     cases (holds s g f) (λ e. rw e (omega arith)) (λ e. rw e (omega arith))
+
+-- a frame that is hit lies in a member
+hits-member : {A : Type 0} (l : List (Span A)) (g f : ℕ) → 1 ≤ hits l g f
+    → (s : Span A) × List·Memᴰ s l × (holds s g f ≡ true)
+unfolding hits
+hits-member [] g f h = absurd (omega arith)
+hits-member (s ∷ l) g f h =
+    cases (holds s g f) (λ e. (s, List·Memᴰ·head refl, e))
+    (λ e. let (t, m, held) = hits-member l g f (rw e at h) in (t, List·Memᴰ·tail m, held))
 
 -- the summand of frame f of group g
 unfoldable pub frameWeight : {A : Type 0} → (Span A → ℕ) → (ℕ → ℕ → Option A) → ℕ → ℕ → ℕ
@@ -124,6 +152,20 @@ module _ {A : Type 0} where
   -- one span stands before another, and `fuse` leaves the two apart
   abbrev pub Apart : (A → A → Bool) → Span A → Span A → Type 0
   Apart same s t = Earlier s t × (adjacent s t && same (s .value) (t .value) ≡ false)
+
+  -- a span with frames stands between two that are apart from it, so these are apart
+  apart-trans : (same : A → A → Bool) (val : ℕ → ℕ → Option A) (s t u : Span A) → Piece val t → Apart same s t
+      → Apart same t u → Apart same s u
+  apart-trans same val s t u p a b = (
+    by (a .0) (b .0) .0,
+    is-false _ (λ e. by (a .0) (b .0) .1 (adjacent-true s u (and-true _ _ e .0))),
+  )
+    where
+      by : Earlier s t → Earlier t u → Earlier s u × ((s .group ≡ u .group) × (suc (s .last) ≡ u .first) → ⊥)
+      by (inl h) (inl k) = (inl (omega arith), λ e. omega arith)
+      by (inl h) (inr k) = (inl (omega arith), λ e. omega arith)
+      by (inr h) (inl k) = (inl (omega arith), λ e. omega arith)
+      by (inr h) (inr k) = (inr (omega arith, omega arith), λ e. omega arith)
 
   -- what begins in a later group, or at a later frame, begins later
   next-group : (g f : ℕ) (t : Span A) → From (suc g) 0 t → From g f t
@@ -365,15 +407,59 @@ module _ {A : Type 0} (same : A → A → Bool) (same-eq : (v w : A) → same v 
         → Earlier (getD (segmentsOf same val groups frames) i d) (getD (segmentsOf same val groups frames) (suc i) d)
     sorted d i h = chain-neighbours (Piece val) (Apart same) (segmentsOf same val groups frames) segments-chain d i h .0
 
-    -- adjacent neighbours differ in value
-    pub longest : (same-neq : (v w : A) → same v w ≡ false → v ≡ w → ⊥) (d : Span A) (i : ℕ)
-        → suc i < length (segmentsOf same val groups frames)
-        → adjacent (getD (segmentsOf same val groups frames) i d) (getD (segmentsOf same val groups frames) (suc i) d) ≡ true
-        → (getD (segmentsOf same val groups frames) i d) .value ≡ (getD (segmentsOf same val groups frames) (suc i) d) .value
-        → ⊥
-    longest same-neq d i h near =
-        same-neq _ _
-        (rw near at (chain-neighbours (Piece val) (Apart same) (segmentsOf same val groups frames) segments-chain d i h .1))
+    -- a covered frame lies in a segment of its value
+    covering : (g f : ℕ) (v : A) → val g f ≡ some v
+        → (s : Span A) × List·Memᴰ s (segmentsOf same val groups frames) × (holds s g f ≡ true) × (s .value ≡ v)
+    unfolding due
+    covering g f v e =
+        let (s, m, held) = hits-member (segmentsOf same val groups frames) g f (omega (arith, exact g f ∙ ap due e)) in
+        let (in-group, from, to) = holds-true s g f held in
+        (s, m, held, cc (constant s m f from to))
+
+    module _ (same-neq : (v w : A) → same v w ≡ false → v ≡ w → ⊥) where
+      -- adjacent neighbours differ in value
+      pub differ : (d : Span A) (i : ℕ) → suc i < length (segmentsOf same val groups frames)
+          → adjacent (getD (segmentsOf same val groups frames) i d) (getD (segmentsOf same val groups frames) (suc i) d) ≡ true
+          → (getD (segmentsOf same val groups frames) i d) .value ≡ (getD (segmentsOf same val groups frames) (suc i) d) .value
+          → ⊥
+      differ d i h near =
+          same-neq _ _
+          (rw near at (chain-neighbours (Piece val) (Apart same) (segmentsOf same val groups frames) segments-chain d i h .1))
+
+      -- two segments of one value that hold a frame and the frame after it are one
+      one-segment : (s t : Span A) → List·Memᴰ s (segmentsOf same val groups frames)
+          → List·Memᴰ t (segmentsOf same val groups frames) → s .value ≡ t .value → (g f : ℕ)
+          → holds s g f ≡ true → holds t g (suc f) ≡ true → s ≡ t
+      one-segment s t m n alike g f a b =
+          by (holds-true s g f a) (holds-true t g (suc f) b)
+          (chain-members (Piece val) (Apart same) (apart-trans same val) (segmentsOf same val groups frames) segments-chain s t m n)
+        where
+          by : (s .group ≡ g) × (s .first ≤ f) × (f ≤ s .last) → (t .group ≡ g) × (t .first ≤ suc f) × (suc f ≤ t .last)
+              → (s ≡ t) ⊎ (Apart same s t ⊎ Apart same t s) → s ≡ t
+          by p q (inl e) = e
+          by p q (inr (inl (inl h, apart))) = absurd (omega arith)
+          by p q (inr (inl (inr h, apart))) =
+              absurd (same-neq _ _ (rw (true-adjacent s t (h .0) (omega arith)) at apart) alike)
+          by p q (inr (inr (inl h, apart))) = absurd (omega arith)
+          by p q (inr (inr (inr h, apart))) = absurd (omega arith)
+
+      -- the frames after and before a segment do not have its value
+      pub longest : (s : Span A) → List·Memᴰ s (segmentsOf same val groups frames)
+          → (val (s .group) (suc (s .last)) ≡ some (s .value) → ⊥)
+          × ((f : ℕ) → suc f ≡ s .first → val (s .group) f ≡ some (s .value) → ⊥)
+      longest s m =
+          let some-frame = ordered s m .0 in (
+            λ e.
+                let (t, n, held, alike) = covering (s .group) (suc (s .last)) (s .value) e in
+                let last-in = true-holds s (s .group) (s .last) refl some-frame (le-refl _) in
+                let one = one-segment s t m n (sym alike) (s .group) (s .last) last-in held in
+                omega (arith, ap (λ u. u .last) one, holds-true t _ _ held),
+            λ f next e.
+                let (t, n, held, alike) = covering (s .group) f (s .value) e in
+                let first-in = true-holds s (s .group) (suc f) refl (omega arith) (omega arith) in
+                let one = one-segment t s n m alike (s .group) f held first-in in
+                omega (arith, ap (λ u. u .first) one, holds-true t _ _ held),
+          )
 
 -- ---- the tool's segments
 
@@ -395,5 +481,6 @@ segmentation kind rs =
       constant = constant eqb eqb-true (value kind rs) groupCount frameCount (value-inside kind rs);
       exact = exact eqb eqb-true (value kind rs) groupCount frameCount (value-inside kind rs);
       sorted = sorted eqb eqb-true (value kind rs) groupCount frameCount (value-inside kind rs) nowhere;
-      longest = longest eqb eqb-true (value kind rs) groupCount frameCount (value-inside kind rs) eqb-false nowhere;
+      longest = longest eqb eqb-true (value kind rs) groupCount frameCount (value-inside kind rs) eqb-false;
+      differ = differ eqb eqb-true (value kind rs) groupCount frameCount (value-inside kind rs) eqb-false nowhere;
     }

@@ -10,6 +10,7 @@ pub mod Blocks
 pub mod Nearest
 pub mod Table
 pub mod Choice
+pub mod Merging
 pub mod Converse
 pub mod Exchange
 pub mod Labels
