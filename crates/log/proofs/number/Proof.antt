@@ -1,0 +1,47 @@
+-- `log::number` meets its contract: two bytes, the lower one first. Assumes nothing.
+use borrow.Author.Needs.{needs}
+use Prim.Native.Nat.{_+_}
+use Rattle.log.proofs.Bytes.{two-bytes}
+use native.Mathlib.Omega.{arith}
+use Rattle.log.proofs.number.Statement.{statement}
+use Rattle.log.proofs.number.Tie as tie
+
+shared-slice-read-wide : tie.Need-shared-slice-read-wide
+shared-slice-read-wide c = search needs
+
+wide-requires : tie.Need-wide-requires
+wide-requires c κs = search needs
+
+add-wide : tie.Need-add-wide
+add-wide c = search needs
+
+shared-slice-read-wide-2 : tie.Need-shared-slice-read-wide-2
+shared-slice-read-wide-2 c = search needs
+
+wide-requires-2 : tie.Need-wide-requires-2
+wide-requires-2 c κs = search needs
+
+mul-result : tie.Need-mul-result
+mul-result c = let a = c .before .before .before .before .before .args in
+    omega (arith, c .wide2 .ensures, c .before .shared-slice-known3 .given (a .at + 1))
+
+add-result : tie.Need-add-result
+add-result c = let a = c .before .before .before .before .before .args in
+    omega (arith, c .wide2 .ensures, c .before .before .wide .ensures, c .before .shared-slice-known3 .given (a .at + 1), c .before .before .before .shared-slice-known2 .given (a .at))
+
+returns : tie.Need-returns
+returns c = let a = c .before .before .before .before .before .args in
+    omega (arith, c .wide2 .ensures, c .before .before .wide .ensures, two-bytes (a .bytes .now) (a .at))
+
+pub number-spec : {M : Type 1} → statement M
+number-spec =
+    tie.close
+    (tie.spec
+    shared-slice-read-wide
+    wide-requires
+    add-wide
+    shared-slice-read-wide-2
+    wide-requires-2
+    mul-result
+    add-result
+    returns)
