@@ -1,12 +1,17 @@
 -- A list of questions that is asked part by part: where a part is refused the whole is, and a part that is passed may be
--- left out. Assumes nothing.
-use Prim.Native.Nat.{ℕ, zero, suc, _-_, _≤_, _<_}
+-- left out. And what an accepted log has. Assumes nothing.
+use Prim.Native.Nat.{ℕ, zero, suc, _-_, _*_, _≤_, _<_}
 use mathlib.Core.List.{List, [], _∷_, _++_, append-nil}
 use mathlib.Core.Path.{_≡_, refl, sym, ap, _∙_}
 use native.Mathlib.Omega.{arith}
-use Rattle.model.specs.Questions.{Question, Outcome, refused, accepted, outcome, each}
+use borrow.Author.Tests.{leb-true}
+use Rattle.model.specs.Log.{recordLength, recordAt, recordCount, records}
+use Rattle.model.specs.Questions.{Question, Outcome, refused, accepted, ask, outcome, each, mostRecords, logQuestions}
+use Rattle.model.specs.Arrays.{recordArrays}
+use Rattle.model.specs.Demands.{AllPass}
 use Rattle.theory.proofs.Tests.{cases}
-use Rattle.theory.proofs.Refusals.{accepted≢refused, outcome-accepted, outcome-behind}
+use Rattle.theory.proofs.Refusals.{accepted≢refused, all-head, all-tail, outcome-accepted, outcome-behind}
+use Rattle.theory.proofs.SlotLaws.{length-listFrom}
 
 -- a refusal is the same whatever comes behind and whatever would be given
 pub refused-first : {A B : Type 0} (ps qs : List Question) (a : A) (b : B) (n i : ℕ) → outcome ps a ≡ refused n i
@@ -37,3 +42,12 @@ module _ (questions : ℕ → List Question) (i count : ℕ) (more : i < count) 
   pub passed-here : {A B : Type 0} (a : A) (b : B) → outcome (questions i) a ≡ accepted a
       → outcome (each questions i (count - i)) b ≡ outcome (each questions (suc i) (count - suc i)) b
   passed-here a b e = rw each-left (outcome-behind (questions i) _ b (outcome-accepted (questions i) a a e .0))
+
+-- a log that passes its questions has few enough records, and the arrays that hold them count as many
+pub few-records : (log : List ℕ) → AllPass (logQuestions log) → recordCount log ≤ mostRecords
+unfolding logQuestions ask
+few-records log all = leb-true (recordCount log) mostRecords (all-head _ _ (all-tail _ _ all))
+
+pub decoded-count : (log : List ℕ) → (recordArrays (records log)) .count ≡ recordCount log
+unfolding recordArrays records
+decoded-count log = length-listFrom 0 (recordCount log) (λ i. recordAt log (recordLength * i))

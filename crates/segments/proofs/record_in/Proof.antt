@@ -1,0 +1,53 @@
+-- `segments::record_in` meets its contract: a place of each array. Assumes nothing.
+use Rattle.model.specs.Questions.{mostRecords}
+use Rattle.model.specs.Calls.{recordSpan}
+use Rattle.model.specs.Arrays.{spanIn}
+use mathlib.Core.Path.{refl}
+use native.Mathlib.Omega.{arith}
+use Rattle.segments.proofs.record_in.Statement.{statement}
+use Rattle.segments.proofs.record_in.Tie as tie
+
+element-copy-out-t6 : tie.Need-element-copy-out-t6
+unfolding mostRecords
+element-copy-out-t6 c = omega arith
+
+mul-t7 : tie.Need-mul-t7
+unfolding mostRecords
+mul-t7 c = omega arith
+
+element-copy-out-t10 : tie.Need-element-copy-out-t10
+unfolding mostRecords
+element-copy-out-t10 c = omega arith
+
+mul-t11 : tie.Need-mul-t11
+unfolding mostRecords
+mul-t11 c = omega arith
+
+element-copy-out-t14 : tie.Need-element-copy-out-t14
+unfolding mostRecords
+element-copy-out-t14 c = omega arith
+
+mul-t15 : tie.Need-mul-t15
+unfolding mostRecords
+mul-t15 c = omega arith
+
+element-copy-out-t18 : tie.Need-element-copy-out-t18
+unfolding mostRecords
+element-copy-out-t18 c = omega arith
+
+returns : tie.Need-returns
+unfolding recordSpan spanIn
+returns c = refl
+
+pub record-in-spec : {M : Type 1} → statement M
+record-in-spec =
+    tie.close
+    (tie.spec
+    element-copy-out-t6
+    mul-t7
+    element-copy-out-t10
+    mul-t11
+    element-copy-out-t14
+    mul-t15
+    element-copy-out-t18
+    returns)

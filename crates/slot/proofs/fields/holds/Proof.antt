@@ -1,0 +1,13 @@
+-- `slot::fields::holds` meets its contract. Assumes nothing.
+use mathlib.Core.Path.{refl}
+use Rattle.model.specs.Spans.{meets, holds}
+use Rattle.model.specs.Calls.{rowSpan}
+use Rattle.slot.proofs.fields.holds.Statement.{statement}
+use Rattle.slot.proofs.fields.holds.Tie as tie
+
+returns : tie.Need-returns
+unfolding holds meets rowSpan
+returns c = refl
+
+pub holds-spec : {M : Type 1} → statement M
+holds-spec = tie.close (tie.spec returns)

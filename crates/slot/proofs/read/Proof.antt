@@ -1,0 +1,86 @@
+-- `slot::read` meets its contract: the slot's questions, then header and rows. Assumes nothing.
+use Prim.Native.Nat.{ℕ, _≤_}
+use mathlib.Core.List.{List}
+use mathlib.Core.Path.{_≡_, sym, ap, _∙_}
+use native.Mathlib.Omega.{arith}
+use borrow.Author.Needs.{needs}
+use denote.Ref.{now}
+use lib.ListN.{length, getD}
+use Rattle.model.specs.Slot.{slotKind, slotCount, slotError, slotRows}
+use Rattle.model.specs.Questions.{accepted, slotQuestions}
+use Rattle.model.specs.Calls.{askedCase, readCase, readOutcome, readRows}
+use Rattle.model.specs.Arrays.{rowArray}
+use Rattle.slot.proofs.Answers.{answer, slot-sized, refused-same, refused-keeps, passed-same, passed-gives}
+use Rattle.slot.proofs.read.Statement.{statement}
+use Rattle.slot.proofs.read.Tie as tie
+
+ask-requires : tie.Need-ask-requires
+ask-requires c κs = search needs
+
+enum-known-asked : tie.Need-enum-known-asked
+enum-known-asked c = search needs
+
+no-rows-requires : tie.Need-no-rows-requires
+no-rows-requires c κs = search needs
+
+enum-told : tie.Need-enum-told
+enum-told c = search needs
+
+-- the slot, once its questions are passed
+abbrev Slot : tie.After-enum-told → List ℕ
+Slot c = now (c .before .before .before .before .args .slot)
+
+passed : (c : tie.After-enum-told) → accepted tt ≡ answer (slotQuestions (Slot c))
+unfolding askedCase
+passed c = ap askedCase (sym (c .enum-told .given .1)) ∙ c .before .before .ask .ensures
+
+sizes : (c : tie.After-enum-told) → (768 ≤ length (Slot c)) × (getD (Slot c) 3 0 ≤ 64)
+unfolding slotCount
+sizes c = slot-sized (Slot c) (passed c)
+
+shared-slice-read-wide : tie.Need-shared-slice-read-wide
+shared-slice-read-wide c = let s = sizes (c .before) in omega arith
+
+wide-requires : tie.Need-wide-requires
+wide-requires c κs = search needs
+
+read-rows-requires : tie.Need-read-rows-requires
+read-rows-requires c κs = let s = sizes (c .before .before) in search needs
+
+shared-slice-read-t10 : tie.Need-shared-slice-read-t10
+shared-slice-read-t10 c = let s = sizes (c .before .before .before .before) in omega arith
+
+eight-requires : tie.Need-eight-requires
+eight-requires c κs = let s = sizes (c .before .before .before .before) in search needs
+
+returns : tie.Need-returns
+unfolding askedCase readCase readOutcome readRows
+returns c =
+    let a = c .before .before in
+    let no = ap askedCase (sym (a .asked .given .1)) ∙ a .before .before .ask .ensures in
+    (refused-same _ _ no, c .no-rows .ensures ∙ ap rowArray (refused-keeps _ _ _ no))
+
+returns-2 : tie.Need-returns-2
+unfolding readCase readOutcome readRows slotRows slotKind slotCount slotError
+returns-2 c =
+    let p = c .before .before .before .before .before in (
+      rw (c .eight .ensures, c .before .before .before .wide .ensures) (passed-same (slotQuestions (Slot p)) _ (passed p)),
+      c .before .before .read-rows .ensures
+          ∙ rw (c .before .before .before .wide .ensures) (ap rowArray (passed-gives (slotQuestions (Slot p)) _ _ (passed p))),
+    )
+
+pub read-spec : {M : Type 1} → statement M
+read-spec =
+    tie.close
+    (tie.spec
+    ask-requires
+    enum-known-asked
+    no-rows-requires
+    enum-told
+    shared-slice-read-wide
+    wide-requires
+    read-rows-requires
+    shared-slice-read-t10
+    eight-requires
+    returns
+    returns-2)
