@@ -18,7 +18,7 @@ use Rattle.model.specs.Segments.{join, fuse, place, framesFrom, groupsFrom, seg
 use Rattle.model.specs.Questions.{ask, mostRecords, mostSegments, logQuestions}
 use Rattle.model.specs.Calls.{logSegments}
 use Rattle.model.specs.Demands.{AllPass}
-use Rattle.theory.proofs.Tests.{cases, and-true, true-and, true≢false, holds-true, true-holds, true-adjacent}
+use Rattle.theory.proofs.Tests.{cases, and-true, true-and, true≢false, holds-true, true-holds, true-adjacent, none≢some}
 use Rattle.theory.proofs.Sums.{sumOf-le}
 use Rattle.theory.proofs.Refusals.{all-head, all-tail}
 use Rattle.theory.proofs.SlotLaws.{length-listFrom}
@@ -35,9 +35,6 @@ Within none n p = Few n p
 Within (some v) n p = n ≤ p
 
 -- no value is not a value
-none≢some : {A : Type 0} {a : A} → none ≡ some a → ⊥
-none≢some e = let z : _≡_ {A = ℕ} 0 1 = cc in omega arith
-
 -- a higher bound
 few-le : (n q p : ℕ) → q ≤ p → Few n q → Few n p
 few-le n q p le few = ⊎-map (λ e. e) (λ (lt : n < q). omega arith) few
@@ -45,7 +42,7 @@ few-le n q p le few = ⊎-map (λ e. e) (λ (lt : n < q). omega arith) few
 -- before a place where nothing is: an uncovered frame, or a group's beginning
 uncovered-step : {A : Type 0} (o : Option A) (n q p : ℕ) → q ≤ p → (none ≡ o) ⊎ (q < p) → Within o n q → Few n p
 uncovered-step none n q p le change few = few-le n q p le few
-uncovered-step (some v) n q p le (inl e) few = absurd (none≢some e)
+uncovered-step (some v) n q p le (inl e) few = absurd (none≢some refl e)
 uncovered-step (some v) n q p le (inr lt) few = inr (omega arith)
 
 -- the span of one frame
@@ -77,7 +74,7 @@ module _ {A : Type 0} (same : A → A → Bool) where
       → Few (length (fused rest)) p → Within o (length (fused (place o g f rest))) p
   unfolding place
   last-step g f p rest none end few = few
-  last-step g f p rest (some v) (inl e) few = absurd (none≢some e)
+  last-step g f p rest (some v) (inl e) few = absurd (none≢some refl e)
   last-step g f p rest (some v) (inr pos) few =
       let more = fuse-le (only g f v) (fused rest) in
       ⊎-elim (λ (e : length (fused rest) ≡ 0). omega arith) (λ (lt : length (fused rest) < p). omega arith) few

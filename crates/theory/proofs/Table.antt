@@ -17,6 +17,7 @@ use Rattle.model.specs.Common.{sumFrom}
 use Rattle.model.specs.Split.{Best, untried, plus, below, exceeds, weigh, scan, single, cell, least, weighed, cutsOf, fewest, firstThat}
 use Rattle.model.specs.Reductions.{IsReduction, reductionError, NotEarlier, IsLeast, IsLatest}
 use Rattle.theory.proofs.Tests.{cases, true≢false}
+pub use Rattle.theory.proofs.Tests.{none≢some, some-inj}
 
 -- ---- one scan
 
@@ -26,12 +27,6 @@ record Sought (tot : ℕ → Option ℕ) (from top : ℕ) (b : Best) : Type 0 wh
   found : (t : ℕ) → b .total ≡ some t → (tot (b .cut) ≡ some t) × (from ≤ b .cut) × (b .cut < top)
   best : (j u : ℕ) → from ≤ j → j < top → tot j ≡ some u
       → (t : ℕ) × (b .total ≡ some t) × (t ≤ u) × (u ≤ t → j ≤ b .cut)
-
-pub none≢some : {A : Type 0} {a : A} {o : Option A} → o ≡ none → o ≡ some a → ⊥
-none≢some p q = let z : _≡_ {A = ℕ} 0 1 = cc in omega arith
-
-pub some-inj : {A : Type 0} {a b : A} {o : Option A} → o ≡ some a → o ≡ some b → a ≡ b
-some-inj p q = cc
 
 plus-some : (o : Option ℕ) (e t : ℕ) → plus o e ≡ some t → (s : ℕ) × (o ≡ some s) × (t ≡ s + e)
 unfolding plus

@@ -1,13 +1,22 @@
 -- What tests tell: `cond` and `&&` by cases, and the tests on spans as facts, both ways. Assumes nothing.
 use Prim.Native.Nat.{ℕ, suc, _≤_, _<_}
 use mathlib.Core.Bool.{Bool, true, false, _&&_, cond, false≢true}
+use mathlib.Core.Option.{Option, none, some}
 use mathlib.Core.Path.{_≡_, refl, sym, _∙_}
+use native.Mathlib.Omega.{arith}
 use lib.Dec.{leb, eqb}
 use borrow.Author.Tests.{leb-true, eqb-true, le-leb, eq-eqb}
 use Rattle.model.specs.Spans.{Span, meets, holds, adjacent}
 
 pub true≢false : true ≡ false → ⊥
 true≢false e = false≢true (sym e)
+
+-- an option is 'none', or 'some' of one value
+pub none≢some : {A : Type 0} {a : A} {o : Option A} → o ≡ none → o ≡ some a → ⊥
+none≢some p q = let z : _≡_ {A = ℕ} 0 1 = cc in omega arith
+
+pub some-inj : {A : Type 0} {a b : A} {o : Option A} → o ≡ some a → o ≡ some b → a ≡ b
+some-inj p q = cc
 
 -- a test is passed or failed
 pub cases {ℓ} : {P : Type ℓ} (b : Bool) → (b ≡ true → P) → (b ≡ false → P) → P
