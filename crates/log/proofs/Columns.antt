@@ -7,12 +7,11 @@ use native.Mathlib.Omega.{arith}
 use native.Mathlib.Nat.{add-zero, zero-add}
 use native.Mathlib.Numerals.{add-one}
 use lib.ListN.{length, getD, set, replicate, length-append, length-map, length-replicate}
-use lib.Seq.{set-at, append-snoc, getD-at}
+use lib.Seq.{set-at, append-snoc}
 use Rattle.model.specs.Common.{listFrom}
 use Rattle.model.specs.Spans.{Span, nowhere}
 use Rattle.model.specs.Arrays.{spanIn, column, recordsIn, recordArrays, segmentsIn, segmentArrays}
 use Rattle.model.specs.declared.Records.{Records}
-use Rattle.model.specs.declared.Segments.{Segments}
 use Rattle.theory.proofs.SlotLaws.{listFrom-of}
 use Rattle.theory.proofs.Converse.{listFrom-append}
 

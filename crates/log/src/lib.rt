@@ -8,7 +8,7 @@ use model::Refusal;
 ghost use mathlib.Core.Path.{_≡_};
 ghost use mathlib.Core.List.{[], _++_};
 ghost use Prim.Native.Nat.{_+_, _*_, _/_, _%_, _<_, _≤_};
-ghost use lib.ListN.{length, drop, set};
+ghost use lib.ListN.{length, drop};
 ghost use Rattle.model.specs.Common.{numberAt};
 ghost use Rattle.model.specs.Log.{recordLength, recordBytes, recordAt, recordCount, records};
 ghost use Rattle.model.specs.Questions.{outcome, each, spanQuestions, recordQuestions, logQuestions, mostRecords};

@@ -1,18 +1,18 @@
 -- Places that are filled from the front, and segments read by number. Assumes nothing.
 use Prim.Native.Nat.{ℕ, zero, suc, _+_, _-_, _≤_, _<_}
 use mathlib.Core.Bool.{Bool, true, false, not, cond}
-use mathlib.Core.List.{List, [], _∷_, _++_}
-use mathlib.Core.Path.{_≡_, refl, sym, ap, ap₂, _∙_}
+use mathlib.Core.List.{List, [], _++_}
+use mathlib.Core.Path.{_≡_, refl, sym, ap, _∙_}
 use native.Mathlib.Omega.{arith}
 use native.Mathlib.Nat.{zero-add}
-use lib.ListN.{length, getD, set, replicate, List·getD-append}
+use lib.ListN.{getD, set, replicate, List·getD-append}
 use native.Mathlib.Numerals.{add-one}
 use mir.Val.{boolByte}
 use lib.Seq.{set-at, append-snoc}
 use Rattle.model.specs.Common.{listFrom}
 use Rattle.model.specs.Spans.{Span, spanLength, adjacent, nowhere}
 use Rattle.model.specs.Blocks.{segmentAt, gap, lastGap, runsTo}
-use Rattle.model.specs.Arrays.{spanIn, segmentsIn}
+use Rattle.model.specs.Arrays.{segmentsIn}
 use Rattle.model.specs.declared.Segments.{Segments}
 use Rattle.theory.proofs.Tests.{cases}
 use Rattle.theory.proofs.SlotLaws.{length-listFrom}

@@ -1,16 +1,15 @@
 -- The arrays that segments are made in: they hold joined spans, and one more span is stored behind them or widens the last.
 -- Assumes nothing.
 use Prim.Native.Nat.{ℕ, zero, suc, _+_, _-_, _≤_, _<_}
-use mathlib.Core.Bool.{Bool, true, false}
-use mathlib.Core.List.{List, [], _∷_, _++_, map}
+use mathlib.Core.Bool.{true, false}
+use mathlib.Core.List.{List, [], _∷_, _++_}
 use mathlib.Core.Path.{_≡_, refl, sym, ap, subst, _∙_}
 use native.Mathlib.Omega.{arith}
-use native.Mathlib.Numerals.{add-one}
-use lib.ListN.{length, getD, set, length-append}
+use lib.ListN.{length, set, length-append}
 use Rattle.model.specs.Common.{listFrom}
 use Rattle.model.specs.Spans.{Span}
 use Rattle.model.specs.Segments.{join}
-use Rattle.model.specs.Arrays.{spanIn, column, segmentsIn, segmentArrays}
+use Rattle.model.specs.Arrays.{spanIn, segmentsIn, segmentArrays}
 use Rattle.model.specs.declared.Records.{Records}
 use Rattle.model.specs.declared.Segments.{Segments}
 use Rattle.theory.proofs.SlotLaws.{length-listFrom}

@@ -1,23 +1,22 @@
 -- From event to event: between two events the records that hold a frame do not change, so the frames of such a stretch have
 -- one value, or none, and join to one span. Assumes nothing.
 use Prim.Native.Nat.{ℕ, zero, suc, _+_, _-_, _≤_, _<_}
-use mathlib.Core.Bool.{Bool, true, false, _&&_, cond}
-use mathlib.Core.List.{List, [], _∷_, _++_, foldr, append-assoc, append-nil, foldr-append}
+use mathlib.Core.Bool.{true, _&&_}
+use mathlib.Core.List.{List, [], _∷_, _++_, foldr, append-assoc, foldr-append}
 use mathlib.Core.Option.{Option, none, some}
-use mathlib.Core.Path.{_≡_, refl, sym, ap, ap₂, subst, _∙_}
+use mathlib.Core.Path.{_≡_, refl, sym, ap, _∙_}
 use native.Mathlib.Omega.{arith}
 use native.Mathlib.Nat.{add-zero}
 use lib.Dec.{leb, ltb, eqb}
-use lib.ListN.{length}
 use borrow.Author.Tests.{ltb-true, ltb-false, leb-true, leb-false, le-leb, lt-leb, lt-ltb, eq-eqb}
 use Rattle.model.specs.Common.{listFrom}
-use Rattle.model.specs.Spans.{Span, groupCount, frameCount, meets, adjacent}
-use Rattle.model.specs.Log.{meeting, aggregated, aggregate, value}
-use Rattle.model.specs.Segments.{join, fuse, place, framesFrom, groupsFrom}
+use Rattle.model.specs.Spans.{Span, groupCount, frameCount, meets}
+use Rattle.model.specs.Log.{meeting, aggregated, value}
+use Rattle.model.specs.Segments.{join, fuse, place, framesFrom}
 use Rattle.theory.proofs.Tests.{cases, and-true, true-and, true-adjacent}
 use Rattle.log.proofs.Columns.{listFrom-left}
 use Rattle.segments.specs.Steps.{nearer, nearerOf, nextEvent, joins, joined, tallied, tallyValue, nothing}
-use Rattle.segments.proofs.Joining.{fuse-join, joined-append, joined-le}
+use Rattle.segments.proofs.Joining.{fuse-join}
 use Rattle.segments.proofs.Tallies.{tally-count, tally-value}
 
 -- ---- the next event

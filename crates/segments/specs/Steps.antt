@@ -1,7 +1,7 @@
 -- The steps from records to segments: the next event of a group, what the records that hold a frame tally to, spans that are
 -- joined as far as they go, and what is measured of segments.
-use Prim.Native.Nat.{ℕ, zero, suc, _+_, _-_, _≤_, min, max}
-use mathlib.Core.Bool.{Bool, true, false, _&&_, cond}
+use Prim.Native.Nat.{ℕ, zero, suc, _+_, _-_, min, max}
+use mathlib.Core.Bool.{Bool, false, _&&_, cond}
 use mathlib.Core.List.{List, [], _∷_, _++_, foldr}
 use mathlib.Core.Path.{_≡_}
 use lib.Dec.{ltb, eqb}

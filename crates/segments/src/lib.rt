@@ -58,15 +58,21 @@ fn after(frame: u16) -> u32
 }
 
 // The record at a place.
-fn record_in(records: Records, index: usize) -> Record
+fn record_in<'a>(
+    groups: &'a [u8; 128],
+    firsts: &'a [u16; 128],
+    lasts: &'a [u16; 128],
+    loads: &'a [u16; 128],
+    index: usize,
+) -> Record
     requires { ⌜ index < mostRecords ⌝ }
-    ensures { λ r. ⌜ recordSpan r ≡ spanIn (records .groups) (records .firsts) (records .lasts) (records .loads) index ⌝ }
+    ensures { λ r. ⌜ recordSpan r ≡ spanIn (now (groups .entry)) (now (firsts .entry)) (now (lasts .entry)) (now (loads .entry)) index ⌝ }
 {
     Record {
-        group: records.groups[index],
-        first: records.firsts[index],
-        last: records.lasts[index],
-        load: records.loads[index],
+        group: groups[index],
+        first: firsts[index],
+        last: lasts[index],
+        load: loads[index],
     }
 }
 
@@ -101,7 +107,14 @@ fn next_event(records: Records, group: u8, a: u32) -> u32
     let count = records.count;
     let mut best: u32 = 65536;
     for index in 0..count {
-        best = nearer_of(record_in(records, index), group, a, best);
+        let record = record_in(
+            &records.groups,
+            &records.firsts,
+            &records.lasts,
+            &records.loads,
+            index,
+        );
+        best = nearer_of(record, group, a, best);
     }
     best
 }
@@ -170,7 +183,14 @@ fn gather(records: Records, group: u8, a: u32) -> Tally
         greatest: 0,
     };
     for index in 0..count {
-        let next = tally_record(tally, record_in(records, index), group, a);
+        let record = record_in(
+            &records.groups,
+            &records.firsts,
+            &records.lasts,
+            &records.loads,
+            index,
+        );
+        let next = tally_record(tally, record, group, a);
         tally = next;
     }
     tally

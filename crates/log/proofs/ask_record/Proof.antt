@@ -1,10 +1,10 @@
 -- `log::ask_record` meets its contract: the mark's two bytes, then what the record itself is asked. Assumes nothing.
 use borrow.Author.Needs.{needs}
-use mathlib.Core.Path.{ap, sym, _∙_}
+use mathlib.Core.Path.{ap, _∙_}
 use native.Mathlib.Numerals.{add-one}
 use borrow.Author.Tests.{eq-eqb, ne-eqb}
-use Rattle.model.specs.Questions.{outcome, ask, marked, recordQuestions, spanQuestions}
-use Rattle.model.specs.Calls.{recordSpan, askedCase}
+use Rattle.model.specs.Questions.{outcome, ask, marked, recordQuestions}
+use Rattle.model.specs.Calls.{askedCase}
 use Rattle.model.specs.Log.{recordLength}
 use Rattle.log.proofs.ask_record.Statement.{statement}
 use Rattle.log.proofs.ask_record.Tie as tie

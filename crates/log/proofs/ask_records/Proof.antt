@@ -1,9 +1,8 @@
 -- `log::ask_records` meets its contract. The loop's invariant: what is left to ask says what the whole says. Assumes nothing.
 use borrow.Author.Needs.{needs}
 use Prim.Native.Nat.{_≤_, _-_}
-use mathlib.Core.Path.{_≡_, refl, sym, ap, _∙_}
+use mathlib.Core.Path.{_≡_, sym, ap, _∙_}
 use native.Mathlib.Numerals.{add-one}
-use mathlib.Core.List.{[]}
 use Rattle.model.specs.Questions.{outcome, each, recordQuestions}
 use Rattle.model.specs.Calls.{askedCase}
 use Rattle.log.proofs.Asking.{refused-here, passed-here}

@@ -1,6 +1,6 @@
 -- `log::decode` meets its contract. The loop's invariant: the arrays hold the first records. Assumes nothing.
 use borrow.Author.Needs.{needs}
-use Prim.Native.Nat.{ℕ, _≤_, _<_, _-_, _*_, _+_, _/_}
+use Prim.Native.Nat.{ℕ, _≤_, _<_, _-_, _*_, _/_}
 use mathlib.Core.List.{List, [], _∷_, _++_}
 use mathlib.Core.Path.{_≡_, sym, ap, _∙_}
 use native.Mathlib.Numerals.{add-one}

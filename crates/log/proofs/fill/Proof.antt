@@ -1,6 +1,5 @@
 -- `log::fill` meets its contract: nine stores write a record's bytes. Assumes nothing.
 use borrow.Author.Needs.{needs}
-use mathlib.Core.Path.{_≡_, _∙_}
 use lib.ListN.{length-set}
 use Rattle.log.proofs.Bytes.{nine-stores}
 use Rattle.model.specs.Log.{recordLength}

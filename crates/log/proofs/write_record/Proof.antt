@@ -1,6 +1,6 @@
 -- `log::write_record` meets its contract: room, then what the record itself is asked. Assumes nothing.
 use borrow.Author.Needs.{needs}
-use mathlib.Core.Path.{refl, ap, sym, _∙_}
+use mathlib.Core.Path.{ap, sym, _∙_}
 use borrow.Author.Tests.{le-leb, lt-leb}
 use Rattle.model.specs.Log.{recordLength}
 use Rattle.model.specs.Questions.{outcome, lent, ask, askRoom, writeQuestions, spanQuestions}

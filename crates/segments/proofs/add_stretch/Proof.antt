@@ -9,7 +9,7 @@ use Rattle.model.specs.Log.{value}
 use Rattle.model.specs.Segments.{framesFrom}
 use Rattle.model.specs.Questions.{mostSegments}
 use Rattle.model.specs.Arrays.{recordsIn, segmentsIn, segmentArrays}
-use Rattle.segments.specs.Steps.{joined, segmentSpan, tallyValue}
+use Rattle.segments.specs.Steps.{joined, segmentSpan}
 use Rattle.segments.specs.declared.Tally.{Tally}
 use Rattle.segments.proofs.Stretches.{next-behind, next-within, stretch-none, stretch-one}
 use native.Mathlib.Omega.{arith}

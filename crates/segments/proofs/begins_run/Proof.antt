@@ -1,7 +1,6 @@
 -- `segments::begins_run` meets its contract: the first segment, or one that is not adjacent to the one before. Assumes nothing.
 use borrow.Author.Needs.{needs}
-use mathlib.Core.Path.{refl, sym, ap, _∙_}
-use Rattle.model.specs.Questions.{mostSegments}
+use mathlib.Core.Path.{sym}
 use Rattle.segments.proofs.Measuring.{gap-first, gap-at}
 use Rattle.segments.proofs.begins_run.Statement.{statement}
 use Rattle.segments.proofs.begins_run.Tie as tie

@@ -9,7 +9,6 @@ use lib.ListN.{length}
 use Rattle.model.specs.Spans.{Span, groupCount, frameCount}
 use Rattle.model.specs.Log.{value}
 use Rattle.model.specs.Segments.{framesFrom, groupsFrom, segments}
-use Rattle.model.specs.Questions.{mostSegments}
 use Rattle.model.specs.Arrays.{recordsIn, segmentsIn, segmentArrays}
 use Rattle.segments.specs.Steps.{joined, Made}
 use Rattle.segments.proofs.Joining.{joined-le}

@@ -1,6 +1,6 @@
 -- `segments::find_group` meets its contract. The loop's invariant: what is made, with the frames left behind it, joins to the whole.
 -- Assumes nothing.
-use mathlib.Core.Path.{_≡_, refl, sym, ap, subst, _∙_}
+use mathlib.Core.Path.{_≡_, sym, ap, _∙_}
 use native.Mathlib.Omega.{arith}
 use Prim.Native.Nat.{ℕ, _≤_, _<_, _-_, zero-le}
 use mathlib.Core.List.{List, [], _++_, append-nil}
@@ -8,7 +8,6 @@ use lib.ListN.{length}
 use Rattle.model.specs.Spans.{Span, frameCount}
 use Rattle.model.specs.Log.{value}
 use Rattle.model.specs.Segments.{framesFrom}
-use Rattle.model.specs.Questions.{mostRecords, mostSegments}
 use Rattle.model.specs.Arrays.{recordsIn, segmentsIn, segmentArrays}
 use Rattle.segments.specs.Steps.{joined, Made}
 use Rattle.segments.proofs.Joining.{joined-le}

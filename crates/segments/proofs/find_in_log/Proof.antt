@@ -1,18 +1,16 @@
 -- `segments::find_in_log` meets its contract: places, kind, and then the log's own questions. Assumes nothing.
 use borrow.Author.Needs.{needs}
-use mathlib.Core.Path.{_≡_, refl, sym, ap, _∙_}
-use Prim.Native.Nat.{ℕ, _≤_}
+use mathlib.Core.Path.{_≡_, sym, ap, _∙_}
+use Prim.Native.Nat.{ℕ}
 use mathlib.Core.List.{List, []}
-use lib.ListN.{length}
 use borrow.Author.Tests.{le-leb, lt-leb}
-use Rattle.model.specs.Questions.{accepted, outcome, lent, ask, askRoom, kindKnown, logQuestions, mostRecords, mostSegments, segmentsQuestions}
+use Rattle.model.specs.Questions.{accepted, outcome, lent, ask, askRoom, kindKnown, logQuestions, mostSegments, segmentsQuestions}
 use Rattle.model.specs.Calls.{askedCase, segmentsCase, segmentsOutcome, logSegments}
 use Rattle.model.specs.Arrays.{recordsIn, segmentArrays}
 use Rattle.model.specs.Spans.{Span}
-use Rattle.model.specs.Log.{recordCount, records}
+use Rattle.model.specs.Log.{records}
 use Rattle.model.specs.Segments.{segments}
 use Rattle.model.specs.Demands.{AllPass}
-use Rattle.model.specs.declared.Records.{Records}
 use Rattle.model.specs.declared.Segments.{Segments}
 use Rattle.theory.proofs.Refusals.{outcome-accepted, all-outcome, all-lent, refused-lent}
 use Rattle.log.proofs.Asking.{refused-other, few-records, decoded-count}

@@ -1,6 +1,5 @@
 -- `segments::follows` meets its contract, by the group and then the frames. Assumes nothing.
 use borrow.Author.Needs.{needs}
-use mathlib.Core.Path.{refl, ap, _∙_}
 use borrow.Author.Tests.{eq-eqb, ne-eqb}
 use Rattle.model.specs.Spans.{adjacent}
 use Rattle.segments.specs.Steps.{segmentSpan}

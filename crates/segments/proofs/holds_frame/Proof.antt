@@ -1,6 +1,5 @@
 -- `segments::holds_frame` meets its contract, by its three tests. Assumes nothing.
 use borrow.Author.Needs.{needs}
-use mathlib.Core.Path.{refl, ap, _∙_}
 use borrow.Author.Tests.{eq-eqb, ne-eqb, le-leb, lt-leb}
 use Rattle.model.specs.Spans.{meets, holds}
 use Rattle.model.specs.Calls.{recordSpan}

@@ -1,9 +1,8 @@
 -- `segments::joins_last` meets its contract: the last segment's value, and then its frames. Assumes nothing.
 use borrow.Author.Needs.{needs}
-use mathlib.Core.Path.{refl, sym, ap, _∙_}
-use Prim.Native.Nat.{_-_, ℕ}
-use Rattle.model.specs.Questions.{mostSegments}
-use Rattle.segments.specs.Steps.{joins, joinsLast, segmentSpan}
+use mathlib.Core.Path.{sym, ap, _∙_}
+use Prim.Native.Nat.{ℕ}
+use Rattle.segments.specs.Steps.{joins, segmentSpan}
 use Rattle.model.specs.Spans.{Span}
 use Rattle.segments.proofs.Joining.{joins-equal, joins-unequal}
 use Rattle.segments.proofs.Storing.{joinsLast-in, joinsLast-none-in}

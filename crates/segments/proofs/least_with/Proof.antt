@@ -1,5 +1,4 @@
 -- `segments::least_with` meets its contract. Assumes nothing.
-use mathlib.Core.Path.{refl}
 use borrow.Author.Tests.{eq-eqb, ne-eqb}
 use Rattle.segments.specs.Steps.{leastWith}
 use native.Mathlib.Omega.{arith}

@@ -1,7 +1,7 @@
 -- `segments::measure` meets its contract. The loop's invariant: the segments passed are measured. Assumes nothing.
 use borrow.Author.Needs.{needs}
 use mathlib.Core.Path.{_≡_, sym, ap, _∙_}
-use Prim.Native.Nat.{ℕ, suc, _≤_, _<_, _-_, _+_}
+use Prim.Native.Nat.{ℕ, suc, _≤_, _<_, _-_}
 use lib.ListN.{length}
 use Rattle.model.specs.Spans.{Span, spanLength}
 use Rattle.model.specs.Blocks.{segmentAt}

@@ -1,5 +1,4 @@
 -- `segments::nearer_event` meets its contract, by its two tests. Assumes nothing.
-use mathlib.Core.Path.{refl}
 use borrow.Author.Tests.{lt-ltb, le-ltb}
 use Rattle.segments.specs.Steps.{nearer}
 use Rattle.segments.proofs.Joining.{and-false-right}

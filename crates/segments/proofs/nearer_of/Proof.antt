@@ -1,9 +1,9 @@
 -- `segments::nearer_of` meets its contract: the first frame, and then the frame after the last. Assumes nothing.
 use borrow.Author.Needs.{needs}
-use mathlib.Core.Path.{refl, ap, _∙_}
+use mathlib.Core.Path.{_∙_}
 use borrow.Author.Tests.{eq-eqb, ne-eqb}
 use Rattle.model.specs.Calls.{recordSpan}
-use Rattle.segments.specs.Steps.{nearer, nearerOf}
+use Rattle.segments.specs.Steps.{nearerOf}
 use Rattle.segments.proofs.nearer_of.Statement.{statement}
 use Rattle.segments.proofs.nearer_of.Tie as tie
 

@@ -1,7 +1,7 @@
 -- `segments::tally_record` meets its contract. Assumes nothing.
 use borrow.Author.Needs.{needs}
-use mathlib.Core.Path.{_≡_, refl, sym, ap, _∙_}
-use Prim.Native.Nat.{ℕ, _+_, max}
+use mathlib.Core.Path.{_≡_, sym, ap, _∙_}
+use Prim.Native.Nat.{_+_, max}
 use mathlib.Core.Bool.{true, false}
 use Rattle.model.specs.Spans.{meets, holds}
 use Rattle.model.specs.Log.{meeting}

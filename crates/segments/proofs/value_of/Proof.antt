@@ -1,5 +1,5 @@
 -- `segments::value_of` meets its contract, kind by kind. Assumes nothing.
-use mathlib.Core.Path.{refl, sym}
+use mathlib.Core.Path.{sym}
 use Rattle.segments.specs.Steps.{tallyValue}
 use Rattle.segments.proofs.Tallies.{tallyValue-other}
 use Rattle.segments.proofs.value_of.Statement.{statement}
