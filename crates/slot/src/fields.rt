@@ -10,6 +10,7 @@ ghost use Rattle.model.specs.Slot.{rowPlace, slotRow};
 ghost use Rattle.model.specs.Calls.{rowSpan, rowOfSpan};
 ghost use Rattle.model.specs.Arrays.{rowArray};
 
+// A byte, as wide as a count or a place.
 pub fn wide(x: u8) -> usize
     ensures { λ r. ⌜ r ≡ x ⌝ }
 {

@@ -45,7 +45,7 @@ turn c =
     let l = c .before .before .before in
     let s = l .before .before .args in
     rw (c .holds .ensures, c .before .row .ensures)
-    (sym (value-turn (slotRow (now (s .slot))) (s .group) (s .frame) (l .loop .next) (s .count) (c .before .before .loop-test .taken)) ∙ l .loop .inv .1)
+    (sym (value-turn (slotRow (now (s .slot))) (s .group) (s .frame) (l .loop .next) (s .count) (omega arith)) ∙ l .loop .inv .1)
 
 returns : tie.Need-returns Inv-loop μ-loop
 unfolding lookupCase rowOfSpan

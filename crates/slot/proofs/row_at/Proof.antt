@@ -1,9 +1,8 @@
 -- `slot::row_at` meets its contract: the slot's questions, then the row or the end. Assumes nothing.
-use Prim.Native.Nat.{ℕ, _≤_}
+use Prim.Native.Nat.{ℕ, suc, _≤_}
 use mathlib.Core.List.{List}
 use mathlib.Core.Path.{_≡_, sym, ap, _∙_}
 use native.Mathlib.Omega.{arith}
-use native.Mathlib.Numerals.{add-one}
 use borrow.Author.Needs.{needs}
 use borrow.Author.Tests.{lt-ltb, le-ltb}
 use denote.Ref.{now}
@@ -46,7 +45,7 @@ row-requires : tie.Need-row-requires
 row-requires c κs = let s = sizes (c .before .before .before) in search needs
 
 add-t14 : tie.Need-add-t14
-add-t14 c = search needs
+add-t14 c = let s = sizes (c .before .before .before .before) in search needs
 
 returns : tie.Need-returns
 unfolding askedCase stepCase stepOutcome stepNext
@@ -61,7 +60,8 @@ returns-2 c =
     let p = c .before .before .before .before in
     let here = lt-ltb _ _ (rw (c .before .before .wide .ensures) at (c .before .if1 .taken)) in (
       rw (here, c .row .ensures) (passed-same (slotQuestions (Slot p)) _ (passed p)),
-      rw (here, add-one) (passed-gives (slotQuestions (Slot p)) _ _ (passed p)),
+      _∙_ {b = suc (p .before .before .before .before .args .number)} (omega arith)
+          (rw here (passed-gives (slotQuestions (Slot p)) _ _ (passed p))),
     )
 
 returns-3 : tie.Need-returns-3

@@ -27,7 +27,7 @@ shared-slice-read-if1 c = omega arith
 returns : tie.Need-returns Inv-loop μ-loop
 returns c =
     let l = c .before .before .before in
-    sym (sym (l .loop .inv .1) ∙ zeros-turn (now (l .before .args .slot)) (l .loop .i) 768 (c .before .before .loop-test .taken) ∙ rw (ne-eqb _ _ (c .if1 .taken)))
+    sym (sym (l .loop .inv .1) ∙ zeros-turn (now (l .before .args .slot)) (l .loop .i) 768 (omega arith) ∙ rw (ne-eqb _ _ (c .if1 .taken)))
 
 add-i : tie.Need-add-i Inv-loop μ-loop
 add-i c = omega arith
@@ -38,7 +38,7 @@ loop-less c = omega arith
 loop-again : tie.Need-loop-again Inv-loop μ-loop
 loop-again c =
     let l = c .before .before .before in
-    (omega arith, sym (zeros-turn (now (l .before .args .slot)) (l .loop .i) 768 (c .before .before .loop-test .taken) ∙ rw (eq-eqb _ _ (c .if1 .left))) ∙ l .loop .inv .1)
+    (omega arith, sym (zeros-turn (now (l .before .args .slot)) (l .loop .i) 768 (omega arith) ∙ rw (eq-eqb _ _ (c .if1 .left))) ∙ l .loop .inv .1)
 
 returns-2 : tie.Need-returns-2 Inv-loop μ-loop
 unfolding zeros

@@ -41,7 +41,19 @@ low-requires-8 c κs = search needs
 
 returns : tie.Need-returns
 unfolding rowBytes rowSpan
-returns c = simp (two-bytes, four-bytes) (cc)
+returns c =
+    simp (
+      two-bytes,
+      four-bytes,
+      c .before .before .before .before .before .before .before .low .ensures,
+      c .before .before .before .before .before .before .low2 .ensures,
+      c .before .before .before .before .before .low3 .ensures,
+      c .before .before .before .before .low4 .ensures,
+      c .before .before .before .low5 .ensures,
+      c .before .before .low6 .ensures,
+      c .before .low7 .ensures,
+      c .low8 .ensures,
+    )
 
 pub row-bytes-spec : {M : Type 1} → statement M
 row-bytes-spec =
