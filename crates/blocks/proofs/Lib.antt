@@ -1,0 +1,2 @@
+-- Laws of block totals.
+pub mod Bounds

@@ -1,0 +1,36 @@
+-- The ranges in which totals are held, and the segments whose totals stay in them.
+use Prim.Native.Nat.{ℕ, _+_, _*_, _≤_}
+use mathlib.Core.List.{List, List·Memᴰ}
+use lib.ListN.{length}
+use Rattle.model.specs.Common.{sumOf}
+use Rattle.model.specs.Spans.{Span, spanLength}
+use Rattle.model.specs.Blocks.{Totals}
+
+-- the frames of all groups, and the greatest value of a frame
+abbrev pub mostFrames : ℕ
+mostFrames = 524288
+
+abbrev pub mostValue : ℕ
+mostValue = 128000
+
+-- the greatest error: that of every frame at the greatest value
+abbrev pub mostError : ℕ
+mostError = mostFrames * (mostValue * mostValue)
+
+-- totals over at most this many frames of at most this value
+pub record Room (t : Totals) : Type 0 where
+  pub frames-le : t .frames ≤ mostFrames
+  pub sum-le : t .sum ≤ mostValue * t .frames
+  pub squares-le : t .squares ≤ mostValue * mostValue * t .frames
+
+-- totals of some block: no row value has a negative error
+pub record Block (t : Totals) : Type 0 where
+  pub room : Room t
+  pub error-pos : (r : ℕ) → 2 * (r * t .sum) ≤ t .squares + r * r * t .frames
+
+-- segments of a log: few, each with frames of a value in range, over no more frames than there are
+pub record Measured (segs : List (Span ℕ)) : Type 0 where
+  pub few : length segs ≤ 255
+  pub proper : (s : Span ℕ) → List·Memᴰ s segs → s .first ≤ s .last
+  pub low-values : (s : Span ℕ) → List·Memᴰ s segs → s .value ≤ mostValue
+  pub frames : sumOf spanLength segs ≤ mostFrames

@@ -1,0 +1,154 @@
+-- `table::first_row` meets its contract. The invariant: `block` has the totals of the first `i` segments, and the places to `i` hold their errors. Assumes nothing.
+use mathlib.Core.Path.{subst}
+use mathlib.Core.Option.{none}
+use native.Mathlib.Nat.{le-refl}
+use lib.ListN.{replicate, length-set, length-replicate, getD-replicate}
+use Rattle.model.specs.Blocks.{add, empty}
+use Rattle.blocks.specs.Room.{Room, Block}
+use Rattle.split.proofs.Errors.{none-in}
+use Rattle.theory.proofs.Blocks.{block-empty}
+use Prim.Native.Nat.{ℕ, zero, suc, _+_, _-_, _≤_, _<_, zero-le}
+use native.Mathlib.Omega.{arith}
+use borrow.Author.Needs.{needs}
+use mathlib.Core.Path.{_≡_, refl, sym, ap, _∙_}
+use lib.ListN.{length, getD}
+use Rattle.model.specs.Blocks.{totals, segmentAt, block}
+use Rattle.model.specs.Arrays.{segmentsIn}
+use Rattle.model.specs.Split.{least, errorOf, gapBelow}
+use Rattle.blocks.specs.Meaning.{totalsIn}
+use Rattle.split.specs.Held.{noError, errorIn}
+use Rattle.split.proofs.Places.{few-count, count-is}
+use Rattle.split.proofs.Range.{block-range, segment-range, error-of, error-range, made-range, totals-back, gaps-at, errors-set, least-first, least-nothing}
+use Rattle.split.proofs.table.first_row.Statement.{statement}
+use Rattle.split.proofs.table.first_row.Tie as tie
+
+abbrev Inv-loop : tie.InvT-loop
+Inv-loop segments lengths values gaps out₀ block₀ i₀ out block′ i = (segments .count ≤ 255) × (i ≤ segments .count) × (length out ≡ 256) × (totalsIn block′ ≡ totals (block (segmentAt (segmentsIn segments)) 0 i))
+    × ((x : ℕ) → 0 ≤ x → x < i + 1 → errorIn (getD out x 0) ≡ least (errorOf (segmentsIn segments)) (gapBelow (segmentsIn segments)) 1 x)
+
+abbrev μ-loop : tie.MeasureT-loop
+μ-loop segments lengths values gaps out₀ block₀ i₀ out block i = segments .count - i
+
+grown : (c : tie.After-make Inv-loop μ-loop)
+    → add (totalsIn (c .before .before .before .loop .block)) (totalsIn (c .make .result))
+    ≡ totals (block (segmentAt (segmentsIn (c .before .before .before .before .before .before .before .before .args .segments))) 0 (c .before .before .before .loop .i + 1))
+grown c =
+    totals-back (segmentsIn (c .before .before .before .before .before .before .before .before .args .segments)) _ _ (c .before .before .before .before .before .before .before .lengths .ensures)
+    (c .before .before .before .before .before .before .values .ensures)
+    (c .before .before .before .loop .i) (omega (arith, count-is (c .before .before .before .before .before .before .before .before .args .segments))) _ _ (c .make .ensures)
+    (c .before .before .before .loop .inv .3)
+
+error-is : (c : tie.After-error Inv-loop μ-loop)
+    → c .error .result ≡ errorOf (segmentsIn (c .before .before .before .before .before .before .before .before .before .before .args .segments)) 0 (c .before .before .before .before .before .loop .i + 1)
+error-is c = c .error .ensures ∙ error-of (segmentsIn (c .before .before .before .before .before .before .before .before .before .before .args .segments)) (c .before .before .before .before .before .before .before .before .before .before .pre) _ 0 _ (c .before .add .ensures ∙ grown (c .before .before))
+
+lengths-requires : tie.Need-lengths-requires Inv-loop μ-loop
+lengths-requires c κs = c .pre
+
+values-requires : tie.Need-values-requires Inv-loop μ-loop
+values-requires c κs = c .before .pre
+
+gaps-requires : tie.Need-gaps-requires Inv-loop μ-loop
+gaps-requires c κs = c .before .before .pre
+
+no-errors-requires : tie.Need-no-errors-requires Inv-loop μ-loop
+no-errors-requires c κs = search needs
+
+loop-holds : tie.Need-loop-holds Inv-loop μ-loop
+unfolding totals empty totalsIn
+loop-holds c = 
+    let outs = c .no-errors .ensures in (
+        few-count (c .before .before .before .before .args .segments) (c .before .before .before .before .pre),
+        zero-le,
+        ap length outs ∙ length-replicate 256 noError,
+        rw (block-empty (segmentAt (segmentsIn (c .before .before .before .before .args .segments))) 0),
+        λ x ge lt. rw outs (none-in _ (getD-replicate 256 x _ 0 (omega arith)) ∙ least-nothing _ _ x lt),
+    )
+
+mul-make : tie.Need-mul-make Inv-loop μ-loop
+mul-make c = omega arith
+
+array-read-make : tie.Need-array-read-make Inv-loop μ-loop
+array-read-make c = omega arith
+
+mul-make-2 : tie.Need-mul-make-2 Inv-loop μ-loop
+mul-make-2 c = omega arith
+
+array-read-make-2 : tie.Need-array-read-make-2 Inv-loop μ-loop
+array-read-make-2 c = omega arith
+
+make-requires : tie.Need-make-requires Inv-loop μ-loop
+make-requires c κs = made-range (segmentsIn (c .before .before .before .before .before .before .before .args .segments)) _ _ (c .before .before .before .before .before .before .lengths .ensures) (c .before .before .before .before .before .values .ensures) _ (omega (arith, count-is (c .before .before .before .before .before .before .before .args .segments))) (c .before .before .before .before .before .before .before .pre)
+
+add-requires : tie.Need-add-requires Inv-loop μ-loop
+add-requires c κs = subst Room (sym (grown c)) (block-range (segmentsIn (c .before .before .before .before .before .before .before .before .args .segments)) (c .before .before .before .before .before .before .before .before .pre) 0 _ zero-le (omega (arith, count-is (c .before .before .before .before .before .before .before .before .args .segments))) .room)
+
+add-i : tie.Need-add-i Inv-loop μ-loop
+add-i c = omega arith
+
+mul-single : tie.Need-mul-single Inv-loop μ-loop
+mul-single c = omega arith
+
+array-read-single : tie.Need-array-read-single Inv-loop μ-loop
+array-read-single c = omega arith
+
+error-requires : tie.Need-error-requires Inv-loop μ-loop
+error-requires c κs = 
+    subst Block (sym (c .add .ensures ∙ grown (c .before)))
+    (block-range (segmentsIn (c .before .before .before .before .before .before .before .before .before .args .segments)) (c .before .before .before .before .before .before .before .before .before .pre) 0 _ zero-le (omega (arith, count-is (c .before .before .before .before .before .before .before .before .before .args .segments))))
+
+single-requires : tie.Need-single-requires Inv-loop μ-loop
+single-requires c κs = 
+    let most = error-range (segmentsIn (c .before .before .before .before .before .before .before .before .before .before .args .segments)) (c .before .before .before .before .before .before .before .before .before .before .pre) 0 (c .before .before .before .before .before .loop .i + 1) zero-le (omega (arith, count-is (c .before .before .before .before .before .before .before .before .before .before .args .segments))) in
+    omega (arith, error-is c)
+
+mul-out : tie.Need-mul-out Inv-loop μ-loop
+mul-out c = omega arith
+
+array-write-out : tie.Need-array-write-out Inv-loop μ-loop
+array-write-out c = omega arith
+
+loop-less : tie.Need-loop-less Inv-loop μ-loop
+loop-less c = omega arith
+
+loop-again : tie.Need-loop-again Inv-loop μ-loop
+loop-again c = 
+    let gap = gaps-at (segmentsIn (c .before .before .before .before .before .before .before .before .before .before .before .args .segments)) _ (c .before .before .before .before .before .before .loop .i + 1) (c .before .before .before .before .before .before .before .before .gaps .ensures) (omega (arith, count-is (c .before .before .before .before .before .before .before .before .before .before .before .args .segments))) in (
+        omega arith,
+        omega arith,
+        simp length-set (c .before .before .before .before .before .before .loop .inv .2),
+        c .before .before .add .ensures ∙ grown (c .before .before .before),
+        errors-set _ (c .before .before .before .before .before .before .loop .out) 0
+        (c .before .before .before .before .before .before .loop .i + 1) (c .single .result) (omega arith) (c .before .before .before .before .before .before .loop .inv .4) (least-first _ _ _ _ _ _ gap (error-is (c .before)) (c .single .ensures)),
+    )
+
+returns : tie.Need-returns Inv-loop μ-loop
+returns c = λ i le. c .before .before .loop .inv .4 i zero-le (omega arith)
+
+pub first-row-spec : {M : Type 1} → statement M
+first-row-spec =
+    tie.close
+    (tie.spec
+    Inv-loop
+    μ-loop
+    lengths-requires
+    values-requires
+    gaps-requires
+    no-errors-requires
+    loop-holds
+    mul-make
+    array-read-make
+    mul-make-2
+    array-read-make-2
+    make-requires
+    add-requires
+    add-i
+    mul-single
+    array-read-single
+    error-requires
+    single-requires
+    mul-out
+    array-write-out
+    loop-less
+    loop-again
+    returns)

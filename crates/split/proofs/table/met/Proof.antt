@@ -1,0 +1,68 @@
+-- `table::met` meets its contract. Assumes nothing.
+use Rattle.blocks.proofs.Bounds.{mul-le}
+use borrow.Author.Tests.{lt-leb, le-leb}
+use native.Mathlib.Omega.{arith}
+use Rattle.split.specs.Held.{meetsIn, Known}
+use borrow.Author.Needs.{needs}
+use Rattle.split.proofs.table.met.Statement.{statement}
+use Rattle.split.proofs.table.met.Tie as tie
+
+enum-told : tie.Need-enum-told
+enum-told c = search needs
+
+enum-known-bound : tie.Need-enum-known-bound
+enum-known-bound c = search needs
+
+returns : tie.Need-returns
+unfolding meetsIn
+returns c = rw (c .before .before .bound .given .1, lt-leb _ _ (c .if1 .taken))
+
+mul-result : tie.Need-mul-result
+mul-result c = search needs
+
+element-copy-out-result : tie.Need-element-copy-out-result
+element-copy-out-result c = search needs
+
+mul-result-2 : tie.Need-mul-result-2
+mul-result-2 c = let small = c .before .before .before .before .before .pre .here (c .before .if1 .left) in omega arith
+
+wide16-requires : tie.Need-wide16-requires
+wide16-requires c κs = search needs
+
+mul-result-3 : tie.Need-mul-result-3
+mul-result-3 c = search needs
+
+element-copy-out-result-2 : tie.Need-element-copy-out-result-2
+element-copy-out-result-2 c = search needs
+
+mul-result-4 : tie.Need-mul-result-4
+unfolding Known
+mul-result-4 c = 
+    let small = c .before .before .before .before .before .before .before .pre .there (c .before .before .before .if1 .left) in
+    let share = rw (c .before .before .before .before .before .bound .given .1) at (c .before .before .before .before .before .before .before .pre .known) in
+    rw (c .before .wide16 .ensures .0) (omega (arith, mul-le share small))
+
+returns-2 : tie.Need-returns-2
+unfolding meetsIn
+returns-2 c = rw (c .enum-told .given .1)
+
+returns-3 : tie.Need-returns-3
+unfolding meetsIn
+returns-3 c = rw (c .before .before .before .before .before .bound .given .1, le-leb _ _ (c .before .before .before .if1 .left), c .before .wide16 .ensures .0)
+
+pub met-spec : {M : Type 1} → statement M
+met-spec =
+    tie.close
+    (tie.spec
+    enum-told
+    enum-known-bound
+    returns
+    mul-result
+    element-copy-out-result
+    mul-result-2
+    wide16-requires
+    mul-result-3
+    element-copy-out-result-2
+    mul-result-4
+    returns-2
+    returns-3)
