@@ -1,0 +1,2 @@
+-- What the walker's answers are.
+pub mod Walk

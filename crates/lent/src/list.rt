@@ -1,0 +1,48 @@
+// The segment call over a lent list of structs: the log's segments are found first, and then copied into the list.
+use model::Segment;
+use model::Segments;
+use model::SegmentsAnswer;
+use segments::Found;
+ghost use mathlib.Core.Path.{_≡_};
+ghost use mathlib.Core.List.{_++_, map};
+ghost use Prim.Native.Nat.{_<_, _≤_};
+ghost use lib.ListN.{length, drop};
+ghost use Rattle.model.specs.Questions.{mostSegments};
+ghost use Rattle.model.specs.Calls.{segmentOf, segmentsCase, segmentsOutcome, filledList};
+ghost use Rattle.model.specs.Arrays.{spanIn, segmentsIn};
+
+// The segment at a place.
+fn segment_at(segments: Segments, index: usize) -> Segment
+    requires { ⌜ index < mostSegments ⌝ }
+    ensures { λ r. ⌜ r ≡ segmentOf (spanIn (segments .groups) (segments .firsts) (segments .lasts) (segments .values) index) ⌝ }
+{
+    Segment {
+        group: segments.groups[index],
+        first: segments.firsts[index],
+        last: segments.lasts[index],
+        value: segments.values[index],
+    }
+}
+
+// Copies segments into the first places of a list.
+fn fill(segments: Segments, list: &mut [Segment])
+    requires { ⌜ (segments .count ≤ mostSegments) × (segments .count ≤ length (now list)) ⌝ }
+    ensures { λ r. ⌜ now (list .exit) ≡ map segmentOf (segmentsIn segments) ++ drop (segments .count) (now (list .entry)) ⌝ }
+{
+    let count = segments.count;
+    let mut index: usize = 0;
+    while index < count {
+        let segment = segment_at(segments, index);
+        list[index] = segment;
+        index += 1;
+    }
+}
+
+// The segments of a log, in the first places of a list of 255 or more.
+pub fn segments(log: &[u8], kind: u8, list: &mut [Segment]) -> SegmentsAnswer
+    ensures { λ r. ⌜ (segmentsCase r ≡ segmentsOutcome kind (now (log .entry)) (length (now (list .entry)))) × (now (list .exit) ≡ filledList kind (now (log .entry)) (now (list .entry))) ⌝ }
+{
+    let found = segments::find_in_log(log, kind, list.len());
+    fill(found.segments, list);
+    found.answer
+}

@@ -1,0 +1,66 @@
+-- `query_by_letter` meets its contract: the letter names the bound, or refuses. Assumes nothing.
+use borrow.Author.Needs.{needs}
+use borrow.Author.Tests.{eq-eqb, ne-eqb}
+use mathlib.Core.Path.{refl, _∙_}
+use Rattle.model.specs.Calls.{boundOf}
+use Rattle.model.specs.declared.Bound.the-variants.{Rows, Share}
+use Rattle.pacer.proofs.Answering.{by-letter, no-letter}
+use Rattle.pacer.proofs.query_by_letter.Statement.{statement}
+use Rattle.pacer.proofs.query_by_letter.Tie as tie
+
+query-requires : tie.Need-query-requires
+query-requires c κs = search needs
+
+same-length : tie.Need-same-length
+same-length c = search needs
+
+returns : tie.Need-returns
+unfolding boundOf
+returns c =
+    let t = c .before .before .before .before in
+    let a = t .before .before .before .args in
+    let e = c .before .before .query .ensures in
+    let says = by-letter (a .kind) (a .letter) (a .bound) (a .log .now) (a .slot .now) (Rows (a .bound))
+    (simp (eq-eqb _ _ (t .if1 .taken))) in
+    (e .0 ∙ says .0, e .1 .0 ∙ says .1)
+
+query-requires-2 : tie.Need-query-requires-2
+query-requires-2 c κs = search needs
+
+same-length-2 : tie.Need-same-length-2
+same-length-2 c = search needs
+
+returns-2 : tie.Need-returns-2
+unfolding boundOf
+returns-2 c =
+    let t = c .before .before .before .before in
+    let a = t .before .before .before .before .args in
+    let e = c .before .before .query2 .ensures in
+    let says = by-letter (a .kind) (a .letter) (a .bound) (a .log .now) (a .slot .now) (Share (a .bound))
+    (simp (ne-eqb _ _ (t .before .if1 .left), eq-eqb _ _ (t .if2 .taken))) in
+    (e .0 ∙ says .0, e .1 .0 ∙ says .1)
+
+refuse-letter-requires : tie.Need-refuse-letter-requires
+refuse-letter-requires c κs = search needs
+
+returns-3 : tie.Need-returns-3
+unfolding boundOf
+returns-3 c =
+    let t = c .before in
+    let a = t .before .before .before .before .args in
+    let says = no-letter (a .kind) (a .letter) (a .bound) (a .log .now) (a .slot .now)
+    (simp (ne-eqb _ _ (t .before .if1 .left), ne-eqb _ _ (t .if2 .left))) in
+    (c .refuse-letter .ensures ∙ says .0, says .1)
+
+pub query-by-letter-spec : {M : Type 1} → statement M
+query-by-letter-spec =
+    tie.close
+    (tie.spec
+    query-requires
+    same-length
+    returns
+    query-requires-2
+    same-length-2
+    returns-2
+    refuse-letter-requires
+    returns-3)
