@@ -1,3 +1,2 @@
--- What the code's totals mean, and what they have room for.
+-- What the code's totals mean.
 pub mod Meaning
-pub mod Room

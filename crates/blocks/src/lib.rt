@@ -4,7 +4,8 @@ ghost use mathlib.Core.Path.{_≡_};
 ghost use Prim.Native.Nat.{_≤_};
 ghost use Rattle.model.specs.Blocks.{totalsOf, add, empty, nearest};
 ghost use Rattle.blocks.specs.Meaning.{totalsIn, errorFrom};
-ghost use Rattle.blocks.specs.Room.{Room, Block, mostFrames, mostValue};
+ghost use Rattle.model.specs.Room.{Room, Block, mostFrames};
+ghost use Rattle.model.specs.Questions.{mostValue};
 
 pub struct Totals {
     pub frames: u64,
@@ -54,7 +55,11 @@ impl Totals {
         }
         let mean = self.sum / self.frames;
         let rest = self.sum % self.frames;
-        if self.frames < 2 * rest { mean + 1 } else { mean }
+        if self.frames < 2 * rest {
+            mean + 1
+        } else {
+            mean
+        }
     }
 
     // The squared error of the row value.

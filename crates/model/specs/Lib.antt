@@ -9,6 +9,7 @@ pub mod Reductions
 pub mod Slot
 pub mod Questions
 pub mod Calls
+pub mod Room
 pub mod Arrays
 pub mod Fitting
 pub mod Demands

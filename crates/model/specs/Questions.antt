@@ -109,7 +109,7 @@ unfoldable pub inOrder : List ℕ → ℕ → Bool
 inOrder slot zero = true
 inOrder slot (suc i) = follows (slotRow slot (suc i)) (slotRow slot i)
 
-unfoldable pub mostValue : ℕ
+abbrev pub mostValue : ℕ
 mostValue = 128000
 
 unfoldable pub rowKnown : Span ℕ → Bool

@@ -26,15 +26,12 @@ use Rattle.model.specs.declared.Row.{Row}
 use Rattle.model.specs.declared.Reading.{Reading}
 use Rattle.theory.proofs.Tests.{true≢false}
 use Rattle.theory.proofs.Refusals.{accepted≢refused, all-head, all-tail, all-left, all-outcome, all-lent, outcome-accepted, outcome-behind, refused-lent, accepted-query}
-use Rattle.theory.proofs.Count.{segment-count}
-use Rattle.theory.proofs.Bounds.{logs-measured}
 use Rattle.theory.proofs.Stored.{rows-length}
 use Rattle.theory.proofs.Answer.{limitOf, answer-reduces, count-le}
-use Rattle.theory.proofs.Demands.{demand1, demand3}
+use Rattle.theory.proofs.Demands.{reduced-to, demand1, demand3}
 use Rattle.theory.proofs.SlotLaws.{listFrom-of}
 use Rattle.log.proofs.Asking.{refused-first}
 use Rattle.log.proofs.Columns.{map-at}
-use Rattle.blocks.specs.Room.{Measured}
 use Rattle.split.specs.Held.{Known, answered, reductionOf}
 use Rattle.split.specs.declared.Reduction.{Reduction}
 use Rattle.pacer.specs.declared.preparing.Prepared.{Prepared}
@@ -54,13 +51,6 @@ unfolding boundKnown mostRows
 limit-le (Rows c) h = leb-true c 64 h
 limit-le (Share p) h = le-refl 64
 
--- the segments of a log whose questions are passed have totals that fit
-pub room-for : (kind : ℕ) (log : List ℕ) → AllPass (logQuestions log) → Measured (logSegments kind log)
-unfolding groupCount frameCount mostValue mostSegments
-room-for kind log all =
-    let m = logs-measured kind log all in
-    record { few = segment-count kind log all; proper = m .ordered; low-values = m .valued; frames = m .short }
-
 -- ---- an array of rows
 
 -- the array holds the rows that it was made of
@@ -77,10 +67,6 @@ module _ (bound : Bound) (segs : List (Span ℕ)) where
   unfolding reduced
   reduced-none h = rw (h, reduced)
 
-  reduced-some : (k : ℕ) → countFor bound segs ≡ some k → reduced bound segs ≡ some (reducedTo bound segs k)
-  unfolding reduced
-  reduced-some k h = rw (h, reduced)
-
 -- it has at most 64 rows
 pub few-rows : (q : Query) (log : List ℕ) → boundKnown (q .bound) ≡ true
     → (reductionOf (reduced (q .bound) (logSegments (q .kind) log))) .count ≤ 64
@@ -95,7 +81,7 @@ few-rows q log known = by (countFor (q .bound) (logSegments (q .kind) log)) refl
         let le = count-le (q .kind) (records log) (q .bound) k h in
         let limit = limit-le (q .bound) known in
         let rows = ap (length {A = Span ℕ}) (cut .rows) ∙ rows-length _ _ cuts in
-        rw (reduced-some (q .bound) (logSegments (q .kind) log) k h) (omega arith)
+        rw (reduced-to (q .bound) (logSegments (q .kind) log) k h) (omega arith)
 
 -- ---- the slot that is prepared
 
@@ -165,7 +151,7 @@ module _ (q : Query) (log : List ℕ) (room : ℕ) where
         by (some k) h =
             let d : Reduced = reducedTo (q .bound) (logSegments (q .kind) log) k in
             let is : reduced (q .bound) (logSegments (q .kind) log) ≡ some d =
-            reduced-some (q .bound) (logSegments (q .kind) log) k h in
+            reduced-to (q .bound) (logSegments (q .kind) log) k h in
             let answer : answerOf q log ≡ d = rw is in
             let says : queryOutcome q log room ≡ accepted (countsOf d) =
             tenth ∙ rw h (ap (λ r. accepted (countsOf r)) answer) in

@@ -1,32 +1,32 @@
 -- The number of rows that answers a bound, from the filled table, and the answer that is made of it. Assumes nothing.
 use Prim.Native.Nat.{ℕ, zero, suc, _+_, _-_, _*_, _≤_, _<_, zero-le, min}
-use mathlib.Core.Bool.{Bool, true, false, _&&_, cond}
+use mathlib.Core.Bool.{Bool, true, false, cond}
 use mathlib.Core.List.{List, [], _∷_, _++_, map}
-use mathlib.Core.Option.{Option, none, some, Option·getD}
-use mathlib.Core.Path.{_≡_, refl, sym, ap, ap₂, _∙_, subst}
+use mathlib.Core.Option.{Option, none, some}
+use mathlib.Core.Path.{_≡_, refl, sym, ap, _∙_}
 use native.Mathlib.Nat.{add-zero, zero-add, sub-zero, suc-sub-suc}
 use native.Mathlib.Omega.{arith}
-use lib.Dec.{leb, ltb}
-use lib.ListN.{length, getD, drop, replicate, length-append, length-map}
-use borrow.Author.Tests.{le-leb, lt-leb, leb-true, ne-eqb}
-use Rattle.model.specs.Common.{sumFrom, listFrom}
+use lib.Dec.{leb}
+use lib.ListN.{length, getD, drop, replicate, length-append}
+use borrow.Author.Tests.{le-leb, leb-true, ne-eqb}
+use Rattle.model.specs.Common.{sumFrom}
 use Rattle.model.specs.Spans.{Span, nowhere}
-use Rattle.model.specs.Blocks.{segmentAt, gap, block, lastGap, runsTo, rowOf, rowValue}
+use Rattle.model.specs.Blocks.{segmentAt, gap, block, lastGap, runsTo, rowOf}
 use Rattle.model.specs.Calls.{rowOfSpan}
 use Rattle.model.specs.Arrays.{rowArray}
 use Rattle.model.specs.Reductions.{IsReduction}
-use Rattle.model.specs.Split.{Reduced, below, cell, least, weighed, cutsOf, rowsOf, fewest, within, firstThat, mostRows, chosen, rowsTried, errorOf, gapBelow, runs, leastOf, countFor, reducedTo, reduced}
+use Rattle.model.specs.Split.{cell, least, weighed, cutsOf, rowsOf, fewest, within, firstThat, mostRows, chosen, rowsTried, errorOf, gapBelow, runs, leastOf, countFor, reducedTo, reduced}
 use Rattle.model.specs.declared.Bound.{Bound}
 use Rattle.model.specs.declared.Bound.the-variants.{Rows, Share}
 use Rattle.model.specs.declared.Row.{Row}
 use Rattle.theory.proofs.Tests.{cases, true≢false}
 use Rattle.theory.proofs.Table.{none≢some, some-inj, sound, blocks-le, cutsOf-length}
 use Rattle.theory.proofs.Choice.{limit-answer, share-answer, weighed-le}
-use Rattle.blocks.specs.Room.{Measured}
+use Rattle.model.specs.Room.{Measured}
 use Rattle.split.specs.declared.Choice.{Choice}
 use Rattle.split.specs.declared.Reduction.{Reduction}
 use Rattle.split.specs.declared.table.Filled.{Filled}
-use Rattle.split.specs.Held.{errorIn, cutsIn, Known, lastRow, meets, meetsIn, stopRow, filledRows, enoughRows, choiceIn, answered, reductionOf, Fills}
+use Rattle.split.specs.Held.{errorIn, cutsIn, Known, lastRow, meets, stopRow, filledRows, enoughRows, choiceIn, answered, reductionOf, Fills}
 use Rattle.split.proofs.Errors.{held, fewest-le}
 use Rattle.split.proofs.Range.{errorOf-wider}
 use Rattle.split.proofs.Places.{listFrom-cong}
@@ -146,9 +146,12 @@ module _ (segs : List (Span ℕ)) (ok : Measured segs) (some-segments : 1 ≤ le
       ∙ ap (fewest (leastOf segs)) (filled .rows ∙ limit-rows l last))))
   choice-is (Share p) f m c known filled is-runs enough last is =
       share-count p
-      ∙ rw (is, ← (filled .rows),
-      meets-column segs ok (f .column) m (f .rows) is-runs (λ x lt. filled .errors x (omega arith)) (rows-range (Share p) f known filled last .1)
-      (Share p))
+      ∙ rw (
+        is,
+        ← (filled .rows),
+        meets-column segs ok (f .column) m (f .rows) is-runs (λ x lt. filled .errors x (omega arith)) (rows-range (Share p) f known filled last .1)
+            (Share p),
+      )
 
   pub count-le : (bound : Bound) (f : Filled) (m : ℕ) (c : Choice) → c ≡ choiceIn bound (f .column) m (f .rows)
       → c .count ≤ f .rows
@@ -198,8 +201,12 @@ unfolding rowsOf rowOf block
 rows-cong h k low n e i [] le is = refl
 rows-cong h k low n e i (j ∷ js) le is =
     let (lt, above, rest) = is in
-    rw (rows-cong h k low n e j js (omega arith) rest, e j (omega arith), e (i - 1) (omega arith),
-    listFrom-cong h k j (i - j) (λ x a b. e x (omega arith)))
+    rw (
+      rows-cong h k low n e j js (omega arith) rest,
+      e j (omega arith),
+      e (i - 1) (omega arith),
+      listFrom-cong h k j (i - j) (λ x a b. e x (omega arith)),
+    )
 
 -- no number of rows answers
 pub refused-is : (segs : List (Span ℕ)) (bound : Bound) → countFor bound segs ≡ none → reductionOf none ≡ reductionOf (reduced bound segs)
@@ -229,9 +236,12 @@ module _ (segs : List (Span ℕ)) (ok : Measured segs) (some-segments : 1 ≤ le
   unfolding rowArray
   rows-are h made same is =
       is
-      ∙ rw (rows-cong h (segmentAt segs) (gapBelow segs) (length segs) same (length segs) _ (omega arith) answer-cuts,
-      rows-length (segmentAt segs) (length segs) (cutsOf (errorOf segs) (gapBelow segs) k (length segs)),
-      cutsOf-length (errorOf segs) (gapBelow segs) k (length segs), drop-replicate k 64 (rowOfSpan nowhere))
+      ∙ rw (
+        rows-cong h (segmentAt segs) (gapBelow segs) (length segs) same (length segs) _ (omega arith) answer-cuts,
+        rows-length (segmentAt segs) (length segs) (cutsOf (errorOf segs) (gapBelow segs) k (length segs)),
+        cutsOf-length (errorOf segs) (gapBelow segs) k (length segs),
+        drop-replicate k 64 (rowOfSpan nowhere),
+      )
 
   pub answer-is : (h : ℕ → Span ℕ) (r : Reduction) (made : List Row) (error count K : ℕ)
       → ((x : ℕ) → x < length segs → h x ≡ segmentAt segs x)
@@ -244,9 +254,16 @@ module _ (segs : List (Span ℕ)) (ok : Measured segs) (some-segments : 1 ≤ le
       let (t, e) = answer-error segs ok some-segments bound k is-count in
       let value = held error t (is-error ∙ e) in
       is
-      ∙ rw (rows-are h made same is-made, reduced-is,
-      rows-length (segmentAt segs) (length segs) (cutsOf (errorOf segs) (gapBelow segs) k (length segs)),
-      cutsOf-length (errorOf segs) (gapBelow segs) k (length segs), e, value, tried, is-count′)
+      ∙ rw (
+        rows-are h made same is-made,
+        reduced-is,
+        rows-length (segmentAt segs) (length segs) (cutsOf (errorOf segs) (gapBelow segs) k (length segs)),
+        cutsOf-length (errorOf segs) (gapBelow segs) k (length segs),
+        e,
+        value,
+        tried,
+        is-count′,
+      )
 
 -- ---- no segment
 
@@ -309,6 +326,10 @@ reduction-weighed segs bound n r is-n is = rw (← is-n) (by (countFor bound seg
         rw (is, nothing) zero-le
     by (some k) e =
         let found : reduced bound segs ≡ some (reducedTo bound segs k) = rw (e, reduced) in
-        rw (is, found, rows-length (segmentAt segs) (length segs) (cutsOf (errorOf segs) (gapBelow segs) k (length segs)),
-        cutsOf-length (errorOf segs) (gapBelow segs) k (length segs))
+        rw (
+          is,
+          found,
+          rows-length (segmentAt segs) (length segs) (cutsOf (errorOf segs) (gapBelow segs) k (length segs)),
+          cutsOf-length (errorOf segs) (gapBelow segs) k (length segs),
+        )
         (weighed-le (errorOf segs) (gapBelow segs) (rowsTried bound (length segs) k) (length segs))

@@ -1,14 +1,14 @@
 -- Errors with 'none' among them, as the code holds them: the greatest number of 64 bits stands for 'none'. Assumes nothing.
 use Prim.Native.Nat.{ℕ, zero, suc, _+_, _≤_, _<_, zero-le}
-use mathlib.Core.Bool.{Bool, true, false, cond}
+use mathlib.Core.Bool.{cond}
 use mathlib.Core.Option.{Option, none, some}
-use mathlib.Core.Path.{_≡_, refl, sym, ap, _∙_}
+use mathlib.Core.Path.{_≡_, refl, sym}
 use native.Mathlib.Decide.{ℕ-discrete}
 use native.Mathlib.Numerals.{add-one}
 use native.Mathlib.Omega.{arith}
-use lib.Dec.{ltb, eqb}
+use lib.Dec.{ltb}
 use borrow.Author.Tests.{lt-ltb, le-ltb, eq-eqb, ne-eqb}
-use Rattle.model.specs.Split.{Best, plus, below, exceeds, weigh, fewest}
+use Rattle.model.specs.Split.{below, exceeds, fewest}
 use Rattle.theory.proofs.Tests.{cases}
 use Rattle.theory.proofs.Table.{none≢some, some-inj}
 use Rattle.split.specs.Held.{noError, errorIn}

@@ -1,29 +1,29 @@
 -- The table as it is filled, place by place in their order, the cuts weighed on the way, and where the filling stops.
 -- Assumes nothing.
-use Prim.Native.Nat.{ℕ, zero, suc, _+_, _-_, _*_, _/_, _%_, _≤_, _<_, zero-le}
+use Prim.Native.Nat.{ℕ, zero, suc, _+_, _-_, _*_, _/_, _%_, _≤_, _<_}
 use mathlib.Core.Bool.{Bool, true, false, _&&_, not, cond}
 use mathlib.Core.List.{List}
-use mathlib.Core.Path.{_≡_, refl, sym, ap, ap₂, _∙_}
+use mathlib.Core.Path.{_≡_, refl, sym, ap, _∙_}
 use native.Mathlib.Decide.{ℕ-discrete, decLe}
-use native.Mathlib.Nat.{mul-le-mul-left, add-zero}
+use native.Mathlib.Nat.{add-zero}
 use native.Mathlib.Numerals.{add-one}
 use native.Mathlib.Omega.{arith}
 use lib.Dec.{ltb, leb}
-use lib.ListN.{length, getD, set, replicate, getD-replicate}
+use lib.ListN.{length, getD, set}
 use lib.Seq.{getD-set-same, getD-set-other}
-use borrow.Author.Tests.{ltb-true, ltb-false, leb-true, leb-false, lt-ltb, le-ltb, le-leb, lt-leb}
+use borrow.Author.Tests.{ltb-true, leb-true, lt-ltb, le-leb}
 use Rattle.model.specs.Common.{sumFrom}
 use Rattle.model.specs.Spans.{Span}
 use Rattle.model.specs.Blocks.{segmentAt, block, totals}
 use Rattle.model.specs.Split.{scan, cell, least, weighed, tablePlace, errorOf, gapBelow, leastOf}
-use Rattle.model.specs.Split as split
 use Rattle.model.specs.declared.Bound.{Bound}
+use Rattle.model.specs.Split as split
+use Rattle.theory.proofs.Sums.{sumFrom-snoc}
+use Rattle.theory.proofs.Choice.{weighed-le}
+use Rattle.theory.proofs.Tests.{cases, and-true, true-and}
 use Rattle.blocks.specs.declared.Totals.{Totals}
 use Rattle.blocks.specs.Meaning.{totalsIn}
-use Rattle.theory.proofs.Sums.{sumFrom-snoc, sumFrom-append}
-use Rattle.theory.proofs.Choice.{weighed-le}
-use Rattle.theory.proofs.Tests.{cases, and-true, true-and, true≢false}
-use Rattle.blocks.proofs.Bounds.{mul-le}
+use Rattle.theory.proofs.Bounds.{mul-le}
 use Rattle.split.specs.Held.{stopRow, errorIn, bestIn, lastRow, meets, filledRows}
 use Rattle.split.specs.declared.table.Best.{Best}
 use Rattle.split.proofs.Scan.{cell-short, cell-first}
@@ -85,8 +85,14 @@ module _ (err : ℕ → ℕ → ℕ) (low : ℕ → ℕ) (n : ℕ) where
         | yes e ↦
             (let row : suc (((k - 1) * 256 + i) / 256) ≡ k = omega arith in
             let place : ((k - 1) * 256 + i) % 256 ≡ i = omega arith in
-            rw (e, getD-set-same table ((k - 1) * 256 + i) v 0 room, row, place, le-leb i n inside,
-            lt-ltb ((k - 1) * 256 + i) ((k - 1) * 256 + suc i) (omega arith)) is)
+            rw (
+              e,
+              getD-set-same table ((k - 1) * 256 + i) v 0 room,
+              row,
+              place,
+              le-leb i n inside,
+              lt-ltb ((k - 1) * 256 + i) ((k - 1) * 256 + suc i) (omega arith),
+            ) is)
         | no ne ↦
             getD-set-other table ((k - 1) * 256 + i) x v 0 ne ∙ before x lt
             ∙ place-same _ _ x (λ a. omega arith) (λ b. omega arith)

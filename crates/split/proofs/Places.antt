@@ -1,24 +1,25 @@
 -- Arrays that are filled from the front, and the columns of the segments as such. Assumes nothing.
-use Prim.Native.Nat.{ℕ, zero, suc, _+_, _-_, _*_, _≤_, _<_}
-use mathlib.Core.Bool.{Bool, true, false, _&&_, not, cond}
-use mathlib.Core.List.{List, [], _∷_, _++_, map, List·Memᴰ}
+use Prim.Native.Nat.{ℕ, zero, suc, _+_, _-_, _≤_, _<_}
+use mathlib.Core.Bool.{Bool, _&&_, not, cond}
+use mathlib.Core.List.{List, [], _∷_, _++_, map}
 use mathlib.Core.Path.{_≡_, refl, sym, ap, _∙_}
-use native.Mathlib.Nat.{add-zero, zero-add, add-suc, sub-zero}
+use native.Mathlib.Nat.{add-zero, zero-add, sub-zero}
 use native.Mathlib.Numerals.{add-one}
 use native.Mathlib.Omega.{arith}
 use lib.Dec.{eqb}
-use lib.ListN.{length, getD, set, replicate, length-append, length-replicate, List·getD-append}
-use lib.Seq.{set-at, append-snoc, getD-append-seam}
+use lib.ListN.{length, getD, set, replicate, List·getD-append}
+use lib.Seq.{set-at, append-snoc}
 use Rattle.model.specs.Common.{listFrom}
-use Rattle.model.specs.Spans.{Span, spanLength, adjacent, nowhere}
+use Rattle.model.specs.Spans.{Span, adjacent, nowhere}
 use Rattle.model.specs.Blocks.{segmentAt, gap, lastGap, runsTo}
 use Rattle.model.specs.Arrays.{column, spanIn, segmentsIn}
 use Rattle.model.specs.declared.Segments.{Segments}
+use Rattle.model.specs.Split.{gapBelow}
 use Rattle.theory.proofs.SlotLaws.{length-listFrom}
 use Rattle.theory.proofs.Converse.{listFrom-append, listFrom-member}
-use Rattle.model.specs.Split.{gapBelow, runs}
+use Rattle.model.specs.Room.{Measured}
+use Rattle.model.specs.Questions.{mostValue}
 use Rattle.split.specs.Held.{gapColumn}
-use Rattle.blocks.specs.Room.{Measured, mostValue, mostFrames}
 
 -- ---- lists of h from, h (from + 1), ..
 

@@ -1,7 +1,7 @@
 -- Measured segments: what their columns hold, and that every block, error and sum of errors is in range. Assumes nothing.
-use Prim.Native.Nat.{ℕ, zero, suc, _+_, _-_, _*_, _≤_, _<_, zero-le}
-use mathlib.Core.Bool.{Bool, true, false, cond}
-use mathlib.Core.List.{List, [], _∷_, map}
+use Prim.Native.Nat.{ℕ, zero, suc, _+_, _-_, _≤_, _<_, zero-le}
+use mathlib.Core.Bool.{cond}
+use mathlib.Core.List.{List, [], _∷_}
 use mathlib.Core.Option.{Option, none, some}
 use mathlib.Core.Path.{_≡_, refl, sym, ap, _∙_, subst}
 use native.Mathlib.Decide.{ℕ-discrete}
@@ -23,10 +23,12 @@ use Rattle.theory.proofs.Nearest.{row-least}
 use Rattle.theory.proofs.SlotLaws.{listFrom-of}
 use Rattle.theory.proofs.Table.{sound}
 use Rattle.blocks.specs.Meaning.{errorFrom}
-use Rattle.blocks.specs.Room.{Measured, Block, Room, mostValue, mostFrames, mostError}
-use Rattle.blocks.proofs.Bounds.{errorFrom-block, measured-block, error-le, squares-split, squares-most, totals-cons, totals-snoc}
+use Rattle.model.specs.Room.{Measured, Block, Room, mostFrames, mostError}
+use Rattle.model.specs.Questions.{mostValue}
+use Rattle.theory.proofs.Bounds.{measured-block, error-le, squares-split, squares-most, totals-cons, totals-snoc}
+use Rattle.blocks.proofs.Bounds.{errorFrom-block}
 use Rattle.split.specs.Held.{errorIn, gapColumn}
-use Rattle.split.proofs.Places.{places-at, column-places, gapColumn-places, proper-span, low-span}
+use Rattle.split.proofs.Places.{places-at, column-places, gapColumn-places, low-span}
 
 -- ---- a wider block costs no less
 

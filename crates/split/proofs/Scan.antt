@@ -1,8 +1,8 @@
 -- The scan of one cell, candidate by candidate, and what a cell's cut may be. Assumes nothing.
-use Prim.Native.Nat.{ℕ, zero, suc, _+_, _-_, _*_, _≤_, _<_, zero-le, max}
-use mathlib.Core.Bool.{Bool, true, false, cond}
-use mathlib.Core.Option.{Option, none, some}
-use mathlib.Core.Path.{_≡_, refl, sym, ap, _∙_}
+use Prim.Native.Nat.{ℕ, zero, suc, _+_, _-_, _≤_, _<_, max}
+use mathlib.Core.Bool.{true, false, cond}
+use mathlib.Core.Option.{Option}
+use mathlib.Core.Path.{_≡_, refl, _∙_}
 use native.Mathlib.Omega.{arith}
 use Rattle.model.specs.Split.{Best, untried, plus, below, exceeds, weigh, scan, cell, least}
 use Rattle.theory.proofs.Tests.{cases}

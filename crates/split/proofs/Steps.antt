@@ -1,37 +1,35 @@
 -- The steps by which the table is filled: the first row, a cell's scan, the next cell, the next row, the end. Assumes nothing.
-use Prim.Native.Nat.{ℕ, zero, suc, _+_, _-_, _*_, _≤_, _<_, zero-le, max, min}
-use mathlib.Core.Bool.{Bool, true, false, _&&_, not, cond}
-use mathlib.Core.List.{List, []}
+use Prim.Native.Nat.{ℕ, zero, suc, _+_, _-_, _*_, _≤_, _<_, zero-le, max}
+use mathlib.Core.Bool.{Bool, true, false, _&&_, not}
+use mathlib.Core.List.{List}
 use mathlib.Core.Option.{Option, none, some}
-use mathlib.Core.Path.{_≡_, refl, sym, ap, _∙_, subst}
-use native.Mathlib.Decide.{ℕ-discrete, decLe}
-use native.Mathlib.Nat.{add-zero, zero-add}
+use mathlib.Core.Path.{_≡_, refl, sym, ap, _∙_}
+use native.Mathlib.Decide.{decLe}
 use native.Mathlib.Numerals.{add-one}
 use native.Mathlib.Omega.{arith}
-use lib.Dec.{ltb, leb, eqb}
+use lib.Dec.{ltb, leb}
 use lib.ListN.{length, getD, set, replicate, length-set, length-replicate, getD-replicate}
 use lib.Seq.{getD-set-same, getD-set-other}
-use borrow.Author.Tests.{ltb-true, ltb-false, leb-true, leb-false, lt-ltb, le-ltb, le-leb, lt-leb, eqb-true, ne-eqb}
+use borrow.Author.Tests.{ltb-true, ltb-false, lt-ltb, le-ltb, le-leb, lt-leb, ne-eqb}
 use Rattle.model.specs.Spans.{Span}
-use Rattle.model.specs.Blocks.{segmentAt, block, totals, empty, lastGap, runsTo}
-use Rattle.model.specs.Split.{untried, plus, below, exceeds, weigh, scan, cell, least, within, cutsOf, mostRows, errorOf, gapBelow, runs, leastOf}
-use Rattle.model.specs.Split as split
+use Rattle.model.specs.Blocks.{segmentAt, block, totals, empty, lastGap}
+use Rattle.model.specs.Split.{untried, plus, below, exceeds, weigh, cell, least, within, cutsOf, mostRows, errorOf, gapBelow, runs, leastOf}
 use Rattle.model.specs.declared.Bound.{Bound}
 use Rattle.model.specs.declared.Bound.the-variants.{Rows, Share}
-use Rattle.theory.proofs.Tests.{cases, and-true, true-and, is-false, true≢false}
-use Rattle.theory.proofs.Table.{none≢some, some-inj, sound, cutsOf-length}
+use Rattle.model.specs.Split as split
+use Rattle.theory.proofs.Tests.{cases, and-true, true≢false}
+use Rattle.theory.proofs.Table.{sound, cutsOf-length}
 use Rattle.theory.proofs.Blocks.{block-empty}
-use Rattle.theory.proofs.Choice.{lastGap-le, runsTo-le, runs-le, errors-some}
+use Rattle.theory.proofs.Choice.{lastGap-le, runs-le, errors-some}
 use Rattle.blocks.specs.declared.Totals.{Totals}
 use Rattle.blocks.specs.Meaning.{totalsIn}
-use Rattle.blocks.specs.Room.{Measured, mostError}
+use Rattle.model.specs.Room.{Measured, mostError}
 use Rattle.split.specs.declared.table.Best.{Best}
-use Rattle.split.specs.declared.table.Filled.{Filled}
-use Rattle.split.specs.Held.{noError, errorIn, bestIn, Known, lastRow, meets, meetsIn, Comparable, stopRow, filledRows, Fills}
-use Rattle.split.proofs.Errors.{none-in, some-in, held, exceeds-in}
+use Rattle.split.specs.Held.{noError, errorIn, bestIn, Known, lastRow, meets, meetsIn, Comparable, filledRows, Fills}
+use Rattle.split.proofs.Errors.{none-in, held, exceeds-in}
 use Rattle.split.proofs.Scan.{scan-left, scan-end, scan-on, cell-scan, cut-lt}
 use Rattle.split.proofs.Range.{errorOf-wider, least-range, errors-set}
-use Rattle.split.proofs.Filling.{placeTo, place-start, place-row, place-set, place-end, weighedTo, weighed-start, weighed-row, weighed-cell, weighed-end, weighed-small, stop-on, stop-met, stop-end, Cells, Scanning}
+use Rattle.split.proofs.Filling.{place-start, place-row, place-set, place-end, weighedTo, weighed-start, weighed-row, weighed-cell, weighed-end, weighed-small, stop-on, stop-met, stop-end, Cells, Scanning}
 use Rattle.split.proofs.Filling as filling
 
 weigh-tried : (b : split.Best) (t : Option ℕ) (j : ℕ) → (weigh b t j) .tried ≡ suc (b .tried)
@@ -142,9 +140,13 @@ module _ (segs : List (Span ℕ)) where
     pub count-small : weighed + found .tried ≤ 2040255
     count-small =
         let from = inv .from in
-        omega
-        (arith, inv .count, is-tried, weighed-cell (errorOf segs) (gapBelow segs) (length segs) k i from,
-        weighed-small (errorOf segs) (gapBelow segs) (length segs) k (i + 1) ge le few (omega arith) (omega arith))
+        omega (
+          arith,
+          inv .count,
+          is-tried,
+          weighed-cell (errorOf segs) (gapBelow segs) (length segs) k i from,
+          weighed-small (errorOf segs) (gapBelow segs) (length segs) k (i + 1) ge le few (omega arith) (omega arith),
+        )
 
     pub cells-next : Cells segs k (set errors i (found .total)) (set table ((k - 1) * 256 + i) (found .cut)) (weighed + found .tried) (i + 1)
     cells-next =
@@ -245,8 +247,13 @@ module _ (segs : List (Span ℕ)) (ok : Measured segs) where
         → (x : ℕ) → x < 1 + 1 → errorIn (getD (set blank 1 v) x 0) ≡ leastOf segs x
     unfolding leastOf least cell
     column-first blank v some-segments first is-blank zero lt =
-        rw (getD-set-other blank 1 0 v 0 (λ e. omega arith), is-blank, getD-replicate 65 0 noError 0 (omega arith),
-        none-in noError refl, ne-eqb (length segs) 0 (λ e. omega arith))
+        rw (
+          getD-set-other blank 1 0 v 0 (λ e. omega arith),
+          is-blank,
+          getD-replicate 65 0 noError 0 (omega arith),
+          none-in noError refl,
+          ne-eqb (length segs) 0 (λ e. omega arith),
+        )
     column-first blank v some-segments first is-blank (suc zero) lt =
         rw (getD-set-same blank 1 v 0 (rw is-blank (rw (length-replicate 65 noError) (omega arith)))) first
     column-first blank v some-segments first is-blank (suc (suc x)) lt = absurd (omega arith)

@@ -1,21 +1,21 @@
 -- What the code's numbers and arrays stand for: errors with 'none' among them, the best candidate, columns of the segments,
 -- the cuts that a table holds, where the filling stops, and an answer.
 use Prim.Native.Nat.{ℕ, zero, suc, _+_, _-_, _*_, _≤_, _<_, min}
-use mathlib.Core.Bool.{Bool, true, false, _&&_, not, cond}
-use mathlib.Core.List.{List, [], _∷_, _++_, map}
+use mathlib.Core.Bool.{Bool, true, false, _&&_, cond}
+use mathlib.Core.List.{List, [], _∷_, _++_}
 use mathlib.Core.Option.{Option, none, some}
 use mathlib.Core.Path.{_≡_}
-use lib.Dec.{ltb, leb, eqb}
+use lib.Dec.{leb, eqb}
 use lib.ListN.{length, getD, replicate}
 use Rattle.model.specs.Common.{listFrom}
-use Rattle.model.specs.Spans.{Span, spanLength}
+use Rattle.model.specs.Spans.{Span}
 use Rattle.model.specs.Arrays.{column, rowArray}
 use Rattle.model.specs.Split.{Reduced, within, fewest, mostRows, errorOf, gapBelow, runs, leastOf, weighed, tablePlace}
-use Rattle.model.specs.Split as model
 use Rattle.model.specs.declared.Bound.{Bound}
 use Rattle.model.specs.declared.Bound.the-variants.{Rows, Share}
 use Rattle.model.specs.declared.Row.{Row}
-use Rattle.blocks.specs.Room.{mostError}
+use Rattle.model.specs.Split as model
+use Rattle.model.specs.Room.{mostError}
 use Rattle.split.specs.declared.Reduction.{Reduction}
 use Rattle.split.specs.declared.Choice.{Choice}
 use Rattle.split.specs.declared.table.Best.{Best}

@@ -1,6 +1,5 @@
 // What the split table reads of the segments, as columns of numbers.
 use model::Segments;
-
 ghost use mathlib.Core.Path.{_≡_};
 ghost use mathlib.Core.Bool.{cond};
 ghost use mathlib.Core.List.{[]};
@@ -10,7 +9,7 @@ ghost use Rattle.model.specs.Spans.{spanLength};
 ghost use Rattle.model.specs.Blocks.{gap};
 ghost use Rattle.model.specs.Split.{runs};
 ghost use Rattle.model.specs.Arrays.{segmentsIn, spanIn, column};
-ghost use Rattle.blocks.specs.Room.{Measured};
+ghost use Rattle.model.specs.Room.{Measured};
 ghost use Rattle.split.specs.Held.{gapColumn};
 
 pub fn wide16(x: u16) -> u64

@@ -3,8 +3,9 @@ mod columns;
 mod rows;
 mod table;
 
-use model::{Bound, Row, Segments};
-
+use model::Bound;
+use model::Row;
+use model::Segments;
 ghost use mathlib.Core.Path.{_≡_};
 ghost use mathlib.Core.Bool.{cond};
 ghost use mathlib.Core.Option.{none};
@@ -12,7 +13,7 @@ ghost use Prim.Native.Nat.{ℕ, _-_, _*_, _≤_, _<_};
 ghost use lib.ListN.{getD};
 ghost use Rattle.model.specs.Arrays.{segmentsIn};
 ghost use Rattle.model.specs.Split.{reduced, rowsTried, fewest, below};
-ghost use Rattle.blocks.specs.Room.{Measured};
+ghost use Rattle.model.specs.Room.{Measured};
 ghost use Rattle.split.specs.Held.{Known, Comparable, errorIn, enoughRows, choiceIn, answered, reductionOf};
 
 // An answer: whether there is one, its rows (rows of zeros past the count), their error, and the cuts weighed.
@@ -57,7 +58,16 @@ pub fn reduce(segments: Segments, bound: Bound) -> Reduction
     let firsts = segments.firsts;
     let lasts = segments.lasts;
     let values = segments.values;
-    let made = rows::read_back(&table, &groups, &firsts, &lasts, &values, count, n, rows::none());
+    let made = rows::read_back(
+        &table,
+        &groups,
+        &firsts,
+        &lasts,
+        &values,
+        count,
+        n,
+        rows::none(),
+    );
     answer(made, count, column[count], filled.weighed)
 }
 
@@ -133,7 +143,11 @@ fn lesser(column: &[u64; 65], k: usize, best: usize) -> usize
     requires { ⌜ (k < 65) × (best < 65) ⌝ }
     ensures { λ r. ⌜ r ≡ cond (below (errorIn (getD (now (column .entry)) k 0)) (errorIn (getD (now (column .entry)) best 0))) k best ⌝ }
 {
-    if less(column[k], column[best]) { k } else { best }
+    if less(column[k], column[best]) {
+        k
+    } else {
+        best
+    }
 }
 
 // Whether the first error is below the second: every number is below 'none'.

@@ -2,7 +2,6 @@
 use crate::columns;
 use blocks::Totals;
 use model::Row;
-
 ghost use mathlib.Core.Path.{_≡_};
 ghost use mathlib.Core.List.{[], _++_, map};
 ghost use Prim.Native.Nat.{_<_, _≤_};
@@ -12,7 +11,7 @@ ghost use Rattle.model.specs.Calls.{rowOfSpan};
 ghost use Rattle.model.specs.Blocks.{rowOf};
 ghost use Rattle.model.specs.Split.{rowsOf};
 ghost use Rattle.model.specs.Arrays.{spanIn, rowArray};
-ghost use Rattle.blocks.specs.Room.{Measured};
+ghost use Rattle.model.specs.Room.{Measured};
 ghost use Rattle.split.specs.Held.{cutsIn, Readable};
 
 pub fn none() -> [Row; 64]

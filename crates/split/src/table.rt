@@ -1,8 +1,8 @@
 // The split table: entry (k,i), at (k − 1) × 256 + i, is the last cut of the least error of the first i segments in k rows.
 use crate::columns;
 use blocks::Totals;
-use model::{Bound, Segments};
-
+use model::Bound;
+use model::Segments;
 ghost use mathlib.Core.Path.{_≡_};
 ghost use mathlib.Core.Bool.{_&&_, not, cond};
 ghost use mathlib.Core.Option.{none, some};
@@ -11,7 +11,7 @@ ghost use lib.Dec.{ltb, eqb};
 ghost use lib.ListN.{getD, replicate};
 ghost use Rattle.model.specs.Arrays.{segmentsIn};
 ghost use Rattle.model.specs.Split.{weigh, plus, least, errorOf, gapBelow};
-ghost use Rattle.blocks.specs.Room.{Measured};
+ghost use Rattle.model.specs.Room.{Measured};
 ghost use Rattle.split.specs.Held.{noError, errorIn, bestIn, Known, lastRow, meetsIn, Comparable, Fills};
 
 // 'none' among errors.

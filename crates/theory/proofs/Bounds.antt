@@ -3,12 +3,12 @@
 -- and the error of any reduction are below 2^53, and 1,000 times such an error is below 2^64. Assumes nothing.
 use Prim.Native.Nat.{ℕ, zero, suc, _+_, _-_, _*_, _^_, _≤_, _<_, zero-le}
 use mathlib.Core.Bool.{_&&_}
-use mathlib.Core.List.{List, [], _∷_, List·Memᴰ, List·Memᴰ·head, List·Memᴰ·tail, List·Memᴰ·cases-cons, List·Memᴰ·not-nil}
+use mathlib.Core.List.{List, [], _∷_, _++_, List·Memᴰ, List·Memᴰ·head, List·Memᴰ·tail, List·Memᴰ·cases-cons, List·Memᴰ·not-nil}
 use mathlib.Core.Logic.{⊎-elim}
 use mathlib.Core.Option.{Option, none, some}
 use mathlib.Core.Path.{_≡_, refl, sym, ap, _∙_}
 use native.Mathlib.Decide.{decLe}
-use native.Mathlib.Nat.{le-refl, le-trans, mul-le-mul, mul-le-mul-left, mul-le-mul-right, zero-add}
+use native.Mathlib.Nat.{le-refl, le-trans, le-of-lt, mul-le-mul-left, mul-le-mul-right, add-zero, zero-add, sub-zero}
 use native.Mathlib.Omega.{arith}
 use lib.Dec.{ltb, eqb}
 use lib.IntN.{pos}
@@ -18,21 +18,24 @@ use Rattle.model.specs.Common.{sumFrom, sumOf, listFrom}
 use Rattle.model.specs.Spans.{Span, groupCount, frameCount, spanLength, meets, nowhere}
 use Rattle.model.specs.Log.{recordLength, recordAt, recordCount, records, meeting, sum, aggregate, aggregated, value}
 use Rattle.model.specs.Segments.{segments}
-use Rattle.model.specs.Blocks.{segmentAt, block, empty, totalsOf, add, totals, blockError}
+use Rattle.model.specs.Blocks.{segmentAt, block, Totals, empty, totalsOf, add, totals, blockError}
 use Rattle.model.specs.Split.{errorOf}
 use Rattle.model.specs.Reductions.{IsReduction, reductionError}
 use Rattle.model.specs.Fitting.{overFrames}
-use Rattle.model.specs.Questions.{ask, groupKnown, spanQuestions, recordQuestions, logQuestions, mostRecords, mostValue}
+use Rattle.model.specs.Questions.{ask, groupKnown, spanQuestions, recordQuestions, logQuestions, mostRecords, mostValue, mostSegments}
 use Rattle.model.specs.Calls.{logSegments}
+use Rattle.model.specs.Room.{mostFrames, mostError, Room, Block, Measured}
 use Rattle.model.specs.Demands.{AllPass}
 use Rattle.theory.proofs.Tests.{cases}
 use Rattle.theory.proofs.Sums.{sumFrom-const, sumOf-cong, sumOf-append, overFrames-le}
 use Rattle.theory.proofs.Refusals.{all-head, all-tail, all-at}
 use Rattle.theory.proofs.SlotLaws.{listFrom-of, length-listFrom}
 use Rattle.theory.proofs.Frames.{worth, segments-weigh, segmentation}
+use Rattle.theory.proofs.Count.{segment-count}
+use Rattle.theory.proofs.Blocks.{block-cons, block-empty, totals-append}
 use Rattle.theory.proofs.Nearest.{error-pos, row-least}
 use Rattle.theory.proofs.Table.{none≢some}
-use Rattle.theory.proofs.Converse.{listFrom-append, listFrom-member, member-listFrom, blocks-sum}
+use Rattle.theory.proofs.Converse.{listFrom-append, listFrom-member, member-listFrom}
 
 -- ---- the records of a log whose questions are passed
 
@@ -113,7 +116,7 @@ module _ (kind : ℕ) (rs : List (Span ℕ)) (few : length rs ≤ mostRecords)
     (small : (r : Span ℕ) → List·Memᴰ r rs → r .value ≤ 1000) where
   -- a frame's value is at most 128,000
   pub value-le : (g f v : ℕ) → value kind rs g f ≡ some v → v ≤ mostValue
-  unfolding value aggregated mostRecords mostValue
+  unfolding value aggregated mostRecords
   value-le g f v e =
       let loads = meeting-le rs g f f small in
       cases (ltb g groupCount && ltb f frameCount)
@@ -150,38 +153,26 @@ frames-le kind rs =
     one-le none = zero-le
     one-le (some v) = le-refl 1
 
+-- ---- products
+
+pub mul-le : {a b c d : ℕ} → a ≤ b → c ≤ d → a * c ≤ b * d
+mul-le {a} {b} {c} {d} p q = le-trans (mul-le-mul-left a q) (mul-le-mul-right d p)
+
 -- ---- measured segments
-
--- each has a frame and a value of at most 128,000, and together they have no more frames than there are
-pub record Measured (segs : List (Span ℕ)) : Type 0 where
-  pub ordered : (s : Span ℕ) → List·Memᴰ s segs → s .first ≤ s .last
-  pub valued : (s : Span ℕ) → List·Memᴰ s segs → s .value ≤ mostValue
-  pub short : sumOf spanLength segs ≤ groupCount * frameCount
-
--- the segments of few records with small loads are measured
-pub measured : (kind : ℕ) (rs : List (Span ℕ)) → length rs ≤ mostRecords
-    → ((r : Span ℕ) → List·Memᴰ r rs → r .value ≤ 1000) → Measured (segments kind rs)
-measured kind rs few small =
-    record {
-      ordered = segmentation kind rs .ordered;
-      valued = segment-value-le kind rs few small;
-      short = frames-le kind rs;
-    }
 
 -- the segments of a log whose questions are passed are measured
 pub logs-measured : (kind : ℕ) (log : List ℕ) → AllPass (logQuestions log) → Measured (logSegments kind log)
-unfolding logSegments
+unfolding logSegments groupCount frameCount mostSegments
 logs-measured kind log all =
     let sound = sound-records log all in
-    measured kind (records log) (sound .0) (λ r m. sound .1 r m .2)
+    record {
+      few = segment-count kind log all;
+      proper = segmentation kind (records log) .ordered;
+      low-values = segment-value-le kind (records log) (sound .0) (λ r m. sound .1 r m .2);
+      frames = frames-le kind (records log);
+    }
 
 -- ---- segments by number
-
--- a sum over two stretches of numbers, one after the other
-halves : {A : Type 0} (w : A → ℕ) (seg : ℕ → A) (from a b : ℕ)
-    → sumOf w (listFrom from (a + b) seg) ≡ sumOf w (listFrom from a seg) + sumOf w (listFrom (from + a) b seg)
-halves w seg from a b =
-    ap (sumOf w) (listFrom-append seg from a b) ∙ sumOf-append w (listFrom from a seg) (listFrom (from + a) b seg)
 
 module _ (segs : List (Span ℕ)) where
   -- the segments by number are the segments
@@ -194,98 +185,147 @@ module _ (segs : List (Span ℕ)) where
   segment-member i lt =
       rw by-number at (listFrom-member (segmentAt segs) 0 (length segs) i zero-le (omega arith))
 
-  -- a stretch of them weighs no more than all
-  stretch-le : (w : Span ℕ → ℕ) (j count : ℕ) → j + count ≤ length segs
-      → sumOf w (listFrom j count (segmentAt segs)) ≤ sumOf w segs
-  stretch-le w j count le =
-      let rest : ℕ = length segs - (j + count) in
-      let parts : length segs ≡ j + (count + rest) = omega arith in
-      let listed = ap (sumOf w) (sym by-number ∙ ap (λ (m : ℕ). listFrom 0 m (segmentAt segs)) parts) in
-      let front = halves w (segmentAt segs) 0 j (count + rest) in
-      let back = halves w (segmentAt segs) (0 + j) count rest in
-      let here = ap (λ (m : ℕ). sumOf w (listFrom m count (segmentAt segs))) (zero-add j) in
+-- ---- a block's totals
+
+-- what holds of every segment of a block
+pub frames-of : (b : List (Span ℕ)) → (totals b) .frames ≡ sumOf spanLength b
+unfolding totals empty add totalsOf sumOf
+frames-of [] = refl
+frames-of (s ∷ b) = ap (λ (n : ℕ). spanLength s + n) (frames-of b)
+
+module _ (b : List (Span ℕ)) (few : sumOf spanLength b ≤ mostFrames) (low-values : (s : Span ℕ) → List·Memᴰ s b → s .value ≤ mostValue) where
+  pub block-room : Room (totals b)
+  unfolding totals empty add totalsOf
+  block-room =
+      record { frames-le = omega (arith, frames-of b); sum-le = sums b low-values .0; squares-le = sums b low-values .1 }
+    where
+      sums : (l : List (Span ℕ)) → ((s : Span ℕ) → List·Memᴰ s l → s .value ≤ mostValue)
+          → ((totals l) .sum ≤ mostValue * (totals l) .frames)
+          × ((totals l) .squares ≤ mostValue * mostValue * (totals l) .frames)
+      sums [] h = (omega arith, omega arith)
+      sums (s ∷ l) h =
+          let ih = sums l (λ t m. h t (List·Memᴰ·tail m)) in
+          let v = h s (List·Memᴰ·head refl) in
+          let one = mul-le-mul-left (spanLength s) v in
+          let two = mul-le-mul-left (spanLength s) (mul-le v v) in
+          (omega arith, omega arith)
+
+  pub block-ok : Block (totals b)
+  block-ok = record { room = block-room; error-pos = λ r. omega (arith, error-pos r b) }
+
+-- ---- blocks of measured segments
+
+-- neighbouring blocks together
+pub block-append : {A : Type 0} (h : ℕ → Span A) (j i n : ℕ) → j ≤ i → i ≤ n → block h j n ≡ block h j i ++ block h i n
+unfolding block
+block-append h j i n le le′ =
+    let size : n - j ≡ (i - j) + (n - i) = omega arith in
+    let here : j + (i - j) ≡ i = omega arith in
+    rw size (rw here at (listFrom-append h j (i - j) (n - i)))
+
+add-nothing : (t : Totals) → add t (totals []) ≡ t
+unfolding add totals empty
+add-nothing t = λ i. record { frames = add-zero (t .frames) i; sum = add-zero (t .sum) i; squares = add-zero (t .squares) i }
+
+-- a block with one more segment in front
+pub totals-cons : (h : ℕ → Span ℕ) (j i : ℕ) → j < i
+    → totals (block h j i) ≡ add (totalsOf (spanLength (h j)) ((h j) .value)) (totals (block h (suc j) i))
+unfolding totals
+totals-cons h j i lt = rw (block-cons h j i lt)
+
+-- a block with one more segment at its end
+pub totals-snoc : (h : ℕ → Span ℕ) (j i : ℕ) → j ≤ i
+    → totals (block h j (suc i)) ≡ add (totals (block h j i)) (totalsOf (spanLength (h i)) ((h i) .value))
+totals-snoc h j i le =
+    ap totals (block-append h j i (suc i) le (omega arith))
+    ∙ totals-append (block h j i) (block h i (suc i)) ∙ ap (add (totals (block h j i))) (one h i)
+  where
+    one : (h : ℕ → Span ℕ) (i : ℕ) → totals (block h i (suc i)) ≡ totalsOf (spanLength (h i)) ((h i) .value)
+    one h i =
+        totals-cons h i (suc i) (omega arith)
+        ∙ ap (λ (b : List (Span ℕ)). add (totalsOf (spanLength (h i)) ((h i) .value)) (totals b)) (block-empty h (suc i))
+        ∙ add-nothing (totalsOf (spanLength (h i)) ((h i) .value))
+
+module _ (h : ℕ → Span ℕ) (n : ℕ) (ok : Measured (listFrom 0 n h)) where
+  part-le : (w : Span ℕ → ℕ) (j i : ℕ) → j ≤ i → i ≤ n → sumOf w (block h j i) ≤ sumOf w (block h 0 n)
+  part-le w j i le le′ =
+      let outer = ap (sumOf w) (block-append h 0 j n zero-le (omega arith)) in
+      let inner = ap (sumOf w) (block-append h j i n le le′) in
+      omega (arith, outer, inner, sumOf-append w (block h 0 j) (block h j n), sumOf-append w (block h j i) (block h i n))
+
+  whole : (i : ℕ) → block h 0 i ≡ listFrom 0 i h
+  unfolding block
+  whole i = rw sub-zero
+
+  -- every block of measured segments has room
+  pub measured-block : (j i : ℕ) → j ≤ i → i ≤ n → Block (totals (block h j i))
+  unfolding block
+  measured-block j i le le′ =
+      block-ok (block h j i)
+      (omega (arith, part-le spanLength j i le le′, ap (sumOf spanLength) (whole n), ok .frames))
+      (λ s m. low s (member-listFrom h j (i - j) s m))
+    where
+      low : (s : Span ℕ) → (x : ℕ) × (j ≤ x) × (x < j + (i - j)) × (s ≡ h x) → s .value ≤ mostValue
+      low s (x, ge, lt, e) =
+          rw e (ok .low-values (h x) (listFrom-member h 0 n x zero-le (omega arith)))
+
+  -- the error of a block is at most its squares
+  pub error-le : (j i : ℕ) → blockError (block h j i) ≤ (totals (block h j i)) .squares
+  error-le j i =
+      let zero-row = row-least (block h j i) (pos 0) in
+      omega (arith, error-pos 0 (block h j i))
+
+  -- the squares of neighbouring blocks add
+  pub squares-split : (j i : ℕ) → j ≤ i
+      → (totals (block h 0 i)) .squares ≡ (totals (block h 0 j)) .squares + (totals (block h j i)) .squares
+  unfolding add
+  squares-split j i le =
+      ap (λ (b : List (Span ℕ)). (totals b) .squares) (block-append h 0 j i zero-le le)
+      ∙ ap (λ (t : Totals). t .squares) (totals-append (block h 0 j) (block h j i))
+
+  pub squares-most : (i : ℕ) → i ≤ n → (totals (block h 0 i)) .squares ≤ mostError
+  squares-most i le = let room = measured-block 0 i zero-le le .room in omega arith
+
+  -- the first i of measured segments are measured
+  pub measured-prefix : (i : ℕ) → i ≤ n → Measured (listFrom 0 i h)
+  measured-prefix i le =
+      record {
+        few = omega (arith, ok .few, length-listFrom 0 n h, length-listFrom 0 i h);
+        proper = λ s m. ok .proper s (within s (member-listFrom h 0 i s m));
+        low-values = λ s m. ok .low-values s (within s (member-listFrom h 0 i s m));
+        frames =
+            omega (
+              arith,
+              part-le spanLength 0 i zero-le le,
+              ap (sumOf spanLength) (whole i),
+              ap (sumOf spanLength) (whole n),
+              ok .frames,
+            );
+      }
+    where
+      within : (s : Span ℕ) → (x : ℕ) × (0 ≤ x) × (x < 0 + i) × (s ≡ h x) → List·Memᴰ s (listFrom 0 n h)
+      within s (x, ge, lt, e) = rw e (listFrom-member h 0 n x zero-le (omega arith))
+
+-- the error of any reduction of the first segments
+module _ (segs : List (Span ℕ)) (ok : Measured segs) where
+  listed : Measured (listFrom 0 (length segs) (segmentAt segs))
+  listed = rw (by-number segs) ok
+
+  squares-le : (low : ℕ → ℕ) (i : ℕ) (cuts : List ℕ) → IsReduction low i cuts
+      → reductionError (errorOf segs) i cuts ≤ (totals (block (segmentAt segs) 0 i)) .squares
+  unfolding reductionError errorOf
+  squares-le low i [] red = zero-le
+  squares-le low i (j ∷ js) red =
+      let ih = squares-le low j js (red .2) in
+      let parts = squares-split (segmentAt segs) (length segs) listed j i (le-of-lt (red .0)) in
+      let here = error-le (segmentAt segs) (length segs) listed j i in
       omega arith
 
-  -- nor does a block
-  block-le : (w : Span ℕ → ℕ) (j i : ℕ) → i ≤ length segs → sumOf w (block (segmentAt segs) j i) ≤ sumOf w segs
-  unfolding block listFrom sumOf
-  block-le w j i le =
-      elim (decLe j i) [
-        | yes h ↦ stretch-le w j (i - j) (omega arith)
-        | no h ↦ (let none-left : i - j ≡ 0 = omega arith in rw none-left zero-le)
-      ]
-
--- ---- totals and errors
-
--- a block's totals as sums
-totals-sums : (b : List (Span ℕ))
-    → ((totals b) .frames ≡ sumOf spanLength b)
-    × ((totals b) .sum ≡ sumOf (λ s. spanLength s * s .value) b)
-    × ((totals b) .squares ≡ sumOf (λ s. spanLength s * (s .value * s .value)) b)
-unfolding totals empty add totalsOf sumOf
-totals-sums [] = (refl, refl, refl)
-totals-sums (s ∷ b) = let ih = totals-sums b in (omega arith, omega arith, omega arith)
-
--- a block's error is at most its error with 0, which is its total of squares
-pub error-le : (b : List (Span ℕ)) → blockError b ≤ (totals b) .squares
-error-le b = omega (arith, row-least b (pos 0), error-pos 0 b)
-
--- length × what the value is worth, where no value is worth more than c
-lengths-le : (h : ℕ → ℕ) (c : ℕ) (l : List (Span ℕ)) → ((s : Span ℕ) → List·Memᴰ s l → h (s .value) ≤ c)
-    → sumOf (λ s. spanLength s * h (s .value)) l ≤ sumOf spanLength l * c
-unfolding sumOf
-lengths-le h c [] most = zero-le
-lengths-le h c (s ∷ l) most =
-    let ih = lengths-le h c l (λ t m. most t (List·Memᴰ·tail m)) in
-    let here = mul-le-mul-left (spanLength s) (most s (List·Memᴰ·head refl)) in
-    omega arith
-
--- an error is no more than another that is no less for each block
-reduction-le : (err other : ℕ → ℕ → ℕ) → ((j i : ℕ) → err j i ≤ other j i) → (i : ℕ) (cuts : List ℕ)
-    → reductionError err i cuts ≤ reductionError other i cuts
-unfolding reductionError
-reduction-le err other le i [] = zero-le
-reduction-le err other le i (j ∷ js) =
-    let ih = reduction-le err other le j js in
-    omega (arith, le j i)
-
-module _ (segs : List (Span ℕ)) (m : Measured segs) where
-  -- all segments, each weighed by its length and what its value is worth
-  all-weighed : (h : ℕ → ℕ) (c : ℕ) → ((v : ℕ) → v ≤ mostValue → h v ≤ c)
-      → sumOf (λ s. spanLength s * h (s .value)) segs ≤ groupCount * frameCount * c
-  all-weighed h c most =
-      le-trans (lengths-le h c segs (λ s n. most (s .value) (m .valued s n))) (mul-le-mul-right c (m .short))
-
-  -- and by the square of its value
-  all-squares : sumOf (λ s. spanLength s * (s .value * s .value)) segs ≤ groupCount * frameCount * (mostValue * mostValue)
-  all-squares = all-weighed (λ v. v * v) (mostValue * mostValue) (λ v le. mul-le-mul le le)
-
-  -- the totals of any block
-  pub totals-le : (j i : ℕ) → i ≤ length segs
-      → ((totals (block (segmentAt segs) j i)) .frames ≤ groupCount * frameCount)
-      × ((totals (block (segmentAt segs) j i)) .sum ≤ groupCount * frameCount * mostValue)
-      × ((totals (block (segmentAt segs) j i)) .squares ≤ groupCount * frameCount * (mostValue * mostValue))
-  totals-le j i le =
-      let sums = totals-sums (block (segmentAt segs) j i) in (
-        rw (sums .0) (le-trans (block-le segs spanLength j i le) (m .short)),
-        rw (sums .1) (le-trans (block-le segs _ j i le) (all-weighed (λ v. v) mostValue (λ v h. h))),
-        rw (sums .2) (le-trans (block-le segs _ j i le) all-squares),
-      )
-
-  -- the error of any reduction of the first segments
   pub reduction-error-le : (low : ℕ → ℕ) (i : ℕ) (cuts : List ℕ) → i ≤ length segs → IsReduction low i cuts
-      → reductionError (errorOf segs) i cuts ≤ groupCount * frameCount * (mostValue * mostValue)
-  unfolding errorOf
+      → reductionError (errorOf segs) i cuts ≤ mostError
   reduction-error-le low i cuts le red =
-      let w : Span ℕ → ℕ = λ s. spanLength s * (s .value * s .value) in
-      le-trans
-      (reduction-le (errorOf segs) (λ j i. sumOf w (block (segmentAt segs) j i))
-      (λ j i. let b = block (segmentAt segs) j i in rw (totals-sums b .2) at (error-le b)) i cuts)
-      (rw (blocks-sum (segmentAt segs) w low cuts i red)
-      (le-trans (stretch-le segs w 0 i (omega arith)) all-squares))
+      le-trans (squares-le low i cuts red) (squares-most (segmentAt segs) (length segs) listed i le)
 
 -- that bound is below 2^53, and 1,000 times it below 2^64
-pub most-error : (groupCount * frameCount * (mostValue * mostValue) < 2 ^ 53)
-    × (groupCount * frameCount * (mostValue * mostValue) * 1000 < 2 ^ 64)
-unfolding groupCount frameCount mostValue
+pub most-error : (mostError < 2 ^ 53) × (mostError * 1000 < 2 ^ 64)
 most-error = (omega arith, omega arith)

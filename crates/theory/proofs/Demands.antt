@@ -39,7 +39,7 @@ demand1 = refusals.demand1
 
 -- ---- what an accepted query answers
 
-reduced-to : (bound : Bound) (segs : List (Span ℕ)) (k : ℕ) → countFor bound segs ≡ some k
+pub reduced-to : (bound : Bound) (segs : List (Span ℕ)) (k : ℕ) → countFor bound segs ≡ some k
     → reduced bound segs ≡ some (reducedTo bound segs k)
 unfolding reduced
 reduced-to bound segs k h = rw (h, reduced)

@@ -234,7 +234,7 @@ zeros-read (suc count) p bytes tail e =
 
 -- a row that can be stored fits its bytes
 known-fits : (r : Span ℕ) → rowKnown r ≡ true → r .last < 2 ^ 16 → InBytes 4 r
-unfolding rowKnown mostValue
+unfolding rowKnown
 known-fits r known fits =
     let p = and-true (groupKnown (r .group) && leb (r .first) (r .last)) (leb (r .value) mostValue) known in
     let q = and-true (groupKnown (r .group)) (leb (r .first) (r .last)) (p .0) in

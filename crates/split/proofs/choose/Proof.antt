@@ -1,6 +1,6 @@
 -- `choose` meets its contract. Assumes nothing.
-use Rattle.split.specs.Held.{choiceIn}
 use borrow.Author.Needs.{needs}
+use Rattle.split.specs.Held.{choiceIn}
 use Rattle.split.proofs.choose.Statement.{statement}
 use Rattle.split.proofs.choose.Tie as tie
 

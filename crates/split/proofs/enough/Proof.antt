@@ -1,7 +1,6 @@
 -- `enough` meets its contract. Assumes nothing.
-use Rattle.split.specs.Held.{enoughRows}
-use mathlib.Core.Path.{refl}
 use borrow.Author.Needs.{needs}
+use Rattle.split.specs.Held.{enoughRows}
 use Rattle.split.proofs.enough.Statement.{statement}
 use Rattle.split.proofs.enough.Tie as tie
 

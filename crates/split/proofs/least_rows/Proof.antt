@@ -1,13 +1,11 @@
 -- `least_rows` meets its contract. The invariant: `best` is the answer for the first `k` numbers of rows. Assumes nothing.
-use Rattle.split.proofs.Errors.{fewest-le, fewest-next}
 use Prim.Native.Nat.{_≤_, _-_}
-use mathlib.Core.Path.{_≡_, refl, sym, ap, _∙_}
+use mathlib.Core.Path.{_≡_, refl, ap}
 use native.Mathlib.Omega.{arith}
-use native.Mathlib.Numerals.{add-one}
-use borrow.Author.Needs.{needs}
 use lib.ListN.{getD}
 use Rattle.model.specs.Split.{fewest}
 use Rattle.split.specs.Held.{errorIn}
+use Rattle.split.proofs.Errors.{fewest-le, fewest-next}
 use Rattle.split.proofs.least_rows.Statement.{statement}
 use Rattle.split.proofs.least_rows.Tie as tie
 
@@ -34,7 +32,7 @@ loop-again : tie.Need-loop-again Inv-loop μ-loop
 loop-again c = (omega arith, fewest-next (λ x. errorIn (getD (c .before .before .before .args .column .now) x 0)) _ _ _ (c .before .before .loop .inv .1) (c .lesser .ensures))
 
 returns : tie.Need-returns Inv-loop μ-loop
-returns c = 
+returns c =
     let last : c .before .loop .k ≡ c .before .before .args .last = omega arith in
     rw last at (c .before .loop .inv .1)
 

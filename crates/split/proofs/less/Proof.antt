@@ -1,6 +1,6 @@
 -- `less` meets its contract. Assumes nothing.
-use native.Mathlib.Omega.{arith}
 use mathlib.Core.Path.{sym}
+use native.Mathlib.Omega.{arith}
 use Rattle.split.proofs.Errors.{below-in}
 use Rattle.split.proofs.less.Statement.{statement}
 use Rattle.split.proofs.less.Tie as tie

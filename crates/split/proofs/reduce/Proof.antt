@@ -1,15 +1,14 @@
 -- `reduce` meets its contract. Assumes nothing.
-use Prim.Native.Nat.{ℕ, _≤_, _<_}
+use Prim.Native.Nat.{ℕ, _≤_}
 use mathlib.Core.Bool.{true, cond}
-use mathlib.Core.List.{List, []}
+use mathlib.Core.List.{List}
 use mathlib.Core.Option.{some, none}
 use mathlib.Core.Path.{_≡_, refl, sym, ap, _∙_, subst}
 use native.Mathlib.Omega.{arith}
+use lib.ListN.{length}
 use borrow.Author.Needs.{needs}
 use borrow.Author.Tests.{not-true, not-false}
-use lib.ListN.{length}
-use Rattle.model.specs.Blocks.{segmentAt}
-use Rattle.model.specs.Arrays.{segmentsIn, spanIn, rowArray}
+use Rattle.model.specs.Arrays.{segmentsIn, rowArray}
 use Rattle.model.specs.Split.{cutsOf, countFor, reduced, errorOf, gapBelow}
 use Rattle.split.specs.Held.{cutsIn, Readable, lastRow, enoughRows, answered, reductionOf}
 use Rattle.split.proofs.Places.{count-is, segment-at}
@@ -79,7 +78,7 @@ refused-requires : tie.Need-refused-requires
 refused-requires c κs = search needs
 
 returns-2 : tie.Need-returns-2
-returns-2 c = 
+returns-2 c =
     let is = c .refused .ensures ∙ refused-is (segmentsIn (c .before .before .before .before .before .args .segments)) (c .before .before .before .before .before .args .bound)
     (few-rows (segmentsIn (c .before .before .before .before .before .args .segments)) (c .before .before .before .before .before .args .bound) _ (c .before .before .before .runs .ensures) (sym (c .before .before .enough .ensures) ∙ not-true _ (c .before .if2 .taken))) in
     (is, reduction-weighed (segmentsIn (c .before .before .before .before .before .args .segments)) (c .before .before .before .before .before .args .bound) _ _ (count-is (c .before .before .before .before .before .args .segments)) is)
@@ -88,7 +87,7 @@ fill-requires : tie.Need-fill-requires
 fill-requires c κs = (c .before .before .before .before .pre .0, (c .before .before .before .before .pre .1, subst (λ (n : ℕ). 1 ≤ lastRow (c .before .before .before .before .args .bound) n) (count-is (c .before .before .before .before .args .segments)) (can-try c)))
 
 choose-requires : tie.Need-choose-requires
-choose-requires c κs = 
+choose-requires c κs =
     let range = rows-in (c .before .before) in
     let rows = range .0 in
     comparable (segmentsIn (c .before .before .before .before .before .before .before .args .segments)) (c .before .before .before .before .before .before .before .pre .0) _ _ _ (c .before .before .before .before .before .runs .ensures) (λ x lt. c .before .before .fill .ensures .errors x (omega arith)) (range .1) (c .before .before .before .before .before .before .before .args .bound) (c .before .before .before .before .before .before .before .pre .1) (omega arith)
@@ -97,7 +96,7 @@ refused-requires-2 : tie.Need-refused-requires-2
 refused-requires-2 c κs = search needs
 
 returns-3 : tie.Need-returns-3
-returns-3 c = 
+returns-3 c =
     let is = c .refused2 .ensures ∙ refused-is (segmentsIn (c .before .before .before .before .before .before .before .before .before .before .before .args .segments)) (c .before .before .before .before .before .before .before .before .before .before .before .args .bound) (counted (c .before .before .before) ∙ rw (not-true (c .before .before .before .choose .result .found) (c .before .if3 .taken))) in
     (is, reduction-weighed (segmentsIn (c .before .before .before .before .before .before .before .before .before .before .before .args .segments)) (c .before .before .before .before .before .before .before .before .before .before .before .args .bound) _ _ (count-is (c .before .before .before .before .before .before .before .before .before .before .before .args .segments)) is)
 
@@ -107,8 +106,8 @@ none-requires-2 c κs = search needs
 read-back-requires : tie.Need-read-back-requires
 unfolding rowArray segmentsIn
 read-back-requires c κs = (
-    (count-in (c .before .before .before .before .before .before .before .before .before .before .before), ap length (c .none2 .ensures)),
-    (subst (Readable (c .before .before .before .before .before .before .before .before .before .before .before .before .before .before .before .before .fill .result .table) (c .before .before .before .before .before .before .before .before .before .before .before .before .before .choose .result .count)) (count-is (c .before .before .before .before .before .before .before .before .before .before .before .before .before .before .before .before .before .before .before .before .before .args .segments)) (read (c .before .before .before .before .before .before .before .before .before .before .before) .1), c .before .before .before .before .before .before .before .before .before .before .before .before .before .before .before .before .before .before .before .before .before .pre .0),
+  (count-in (c .before .before .before .before .before .before .before .before .before .before .before), ap length (c .none2 .ensures)),
+  (subst (Readable (c .before .before .before .before .before .before .before .before .before .before .before .before .before .before .before .before .fill .result .table) (c .before .before .before .before .before .before .before .before .before .before .before .before .before .choose .result .count)) (count-is (c .before .before .before .before .before .before .before .before .before .before .before .before .before .before .before .before .before .before .before .before .before .args .segments)) (read (c .before .before .before .before .before .before .before .before .before .before .before) .1), c .before .before .before .before .before .before .before .before .before .before .before .before .before .before .before .before .before .before .before .before .before .pre .0),
 )
 
 mul-answer : tie.Need-mul-answer

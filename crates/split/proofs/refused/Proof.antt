@@ -1,7 +1,6 @@
 -- `refused` meets its contract. Assumes nothing.
-use mathlib.Core.Path.{refl}
-use Rattle.split.specs.Held.{reductionOf}
 use borrow.Author.Needs.{needs}
+use Rattle.split.specs.Held.{reductionOf}
 use Rattle.split.proofs.refused.Statement.{statement}
 use Rattle.split.proofs.refused.Tie as tie
 

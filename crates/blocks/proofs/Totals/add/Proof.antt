@@ -1,6 +1,6 @@
 -- `Totals::add` meets its contract. Assumes nothing.
-use native.Mathlib.Omega.{arith}
 use mathlib.Core.Path.{refl}
+use native.Mathlib.Omega.{arith}
 use Rattle.model.specs.Blocks.{add}
 use Rattle.blocks.specs.Meaning.{totalsIn}
 use Rattle.blocks.proofs.Totals.add.Statement.{statement}

@@ -1,5 +1,4 @@
 -- `Totals::error` meets its contract. Assumes nothing.
-use mathlib.Core.Path.{refl, sym}
 use native.Mathlib.Omega.{arith}
 use Rattle.blocks.specs.Meaning.{totalsIn, errorFrom}
 use Rattle.blocks.proofs.Bounds.{Products, products}

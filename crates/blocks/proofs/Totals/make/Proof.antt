@@ -1,10 +1,9 @@
 -- `Totals::make` meets its contract. Assumes nothing.
-use native.Mathlib.Nat.{le-refl}
-use native.Mathlib.Omega.{arith}
 use mathlib.Core.Path.{refl}
+use native.Mathlib.Omega.{arith}
 use Rattle.model.specs.Blocks.{totalsOf}
 use Rattle.blocks.specs.Meaning.{totalsIn}
-use Rattle.blocks.proofs.Bounds.{mul-le}
+use Rattle.theory.proofs.Bounds.{mul-le}
 use Rattle.blocks.proofs.Totals.make.Statement.{statement}
 use Rattle.blocks.proofs.Totals.make.Tie as tie
 

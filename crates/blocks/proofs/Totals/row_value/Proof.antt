@@ -1,9 +1,9 @@
 -- `Totals::row_value` meets its contract. Assumes nothing.
+use native.Mathlib.Numerals.{add-one}
+use native.Mathlib.Nat.{mod-lt, div-le-self}
+use native.Mathlib.Omega.{arith}
 use borrow.Author.Needs.{needs}
 use borrow.Author.Tests.{lt-ltb, le-ltb}
-use native.Mathlib.Numerals.{add-one}
-use native.Mathlib.Nat.{mod-lt, div-add-mod', div-le-self}
-use native.Mathlib.Omega.{arith}
 use Rattle.model.specs.Blocks.{nearest}
 use Rattle.blocks.specs.Meaning.{totalsIn}
 use Rattle.blocks.proofs.Bounds.{nearest-none}

@@ -14,7 +14,8 @@ use Rattle.theory.proofs.Refusals.{all-head, all-tail}
 use Rattle.log.proofs.Asking.{few-records, decoded-count}
 use Rattle.log.proofs.Columns.{records-held, segments-held}
 use Rattle.split.specs.Held.{reductionOf}
-use Rattle.pacer.proofs.Answering.{known-bound, room-for}
+use Rattle.theory.proofs.Bounds.{logs-measured}
+use Rattle.pacer.proofs.Answering.{known-bound}
 use Rattle.pacer.proofs.preparing.reduce.Statement.{statement}
 use Rattle.pacer.proofs.preparing.reduce.Tie as tie
 
@@ -47,7 +48,7 @@ reduce-requires : tie.Need-reduce-requires
 unfolding orderQuestions ask
 reduce-requires c κs =
     let s = c .before .before in (
-      rw (found c) (room-for (s .before .args .query .kind) (Log s) (logged s)),
+      rw (found c) (logs-measured (s .before .args .query .kind) (Log s) (logged s)),
       known-bound (s .before .args .query .bound) (all-head _ _ (all-tail _ _ (s .before .pre))),
     )
 

@@ -6,7 +6,7 @@ use Rattle.slot.proofs.questions.row_known.Statement.{statement}
 use Rattle.slot.proofs.questions.row_known.Tie as tie
 
 returns : tie.Need-returns
-unfolding rowKnown groupKnown mostValue rowSpan
+unfolding rowKnown groupKnown rowSpan
 returns c = refl
 
 pub row-known-spec : {M : Type 1} → statement M

@@ -1,13 +1,12 @@
 -- `columns::gaps` meets its contract. The invariant: the places to `i` are filled, and `low` is the last gap below `i`. Assumes nothing.
-
-use Rattle.model.specs.Blocks.{lastGap}
 use Prim.Native.Nat.{_+_, _-_, _≤_}
-use mathlib.Core.Path.{_≡_, refl, sym, ap, _∙_}
+use mathlib.Core.Path.{_≡_, refl, _∙_}
 use native.Mathlib.Omega.{arith}
-use borrow.Author.Needs.{needs}
-use Rattle.model.specs.Split.{gapBelow}
 use lib.ListN.{length}
-use Rattle.model.specs.Arrays.{segmentsIn, spanIn}
+use borrow.Author.Needs.{needs}
+use Rattle.model.specs.Blocks.{lastGap}
+use Rattle.model.specs.Split.{gapBelow}
+use Rattle.model.specs.Arrays.{segmentsIn}
 use Rattle.split.proofs.Places.{places, places-first, places-set, few-count, count-is, gapBelow-next, gapColumn-places}
 use Rattle.split.proofs.columns.gaps.Statement.{statement}
 use Rattle.split.proofs.columns.gaps.Tie as tie
@@ -44,12 +43,12 @@ loop-less : tie.Need-loop-less Inv-loop μ-loop
 loop-less c = omega arith
 
 loop-again : tie.Need-loop-again Inv-loop μ-loop
-loop-again c = 
+loop-again c =
     let next = gapBelow-next (c .before .before .before .before .before .before .before .before .before .before .before .before .args .segments) (c .before .before .before .before .before .before .before .loop .i) (omega arith) _ _ _ (c .before .is-gap .ensures) (c .pick .ensures) (c .before .before .before .before .before .before .before .loop .inv .2) in
     (omega arith, omega arith, next, places-set 256 _ _ _ _ (omega arith) (c .before .before .before .before .before .before .before .loop .inv .3) next)
 
 returns : tie.Need-returns Inv-loop μ-loop
-returns c = 
+returns c =
     let all : c .before .before .loop .i ≡ length (segmentsIn (c .before .before .before .before .before .before .before .args .segments)) = omega (arith, count-is (c .before .before .before .before .before .before .before .args .segments)) in
     (rw all at (c .before .before .loop .inv .3)) ∙ gapColumn-places _
 

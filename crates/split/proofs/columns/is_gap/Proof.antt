@@ -1,10 +1,10 @@
 -- `columns::is_gap` meets its contract. Assumes nothing.
+use native.Mathlib.Omega.{arith}
+use borrow.Author.Tests.{eq-eqb, ne-eqb}
+use borrow.Author.Needs.{needs}
 use Rattle.model.specs.Blocks.{gap}
 use Rattle.model.specs.Arrays.{spanIn}
-use borrow.Author.Tests.{eq-eqb, ne-eqb}
 use Rattle.split.proofs.Places.{gap-after}
-use native.Mathlib.Omega.{arith}
-use borrow.Author.Needs.{needs}
 use Rattle.split.proofs.columns.is_gap.Statement.{statement}
 use Rattle.split.proofs.columns.is_gap.Tie as tie
 
@@ -23,7 +23,7 @@ element-copy-out-if2-2 c = search needs
 
 returns-2 : tie.Need-returns-2
 unfolding spanIn
-returns-2 c = 
+returns-2 c =
     rw (gap-after (spanIn _ _ _ _) (c .before .before .before .before .args .i) (c .before .before .before .if1 .left), ne-eqb _ _ (c .if2 .taken))
 
 sub-wide16 : tie.Need-sub-wide16
@@ -52,7 +52,7 @@ wide16-requires-2 c κs = search needs
 
 returns-3 : tie.Need-returns-3
 unfolding spanIn
-returns-3 c = 
+returns-3 c =
     rw (gap-after (spanIn _ _ _ _) (c .before .before .before .before .before .before .before .before .args .i) (c .before .before .before .before .before .before .before .if1 .left), eq-eqb _ _ (c .before .before .before .before .if2 .left), c .before .before .wide16 .ensures .0, c .wide162 .ensures .0)
 
 pub is-gap-spec : {M : Type 1} → statement M

@@ -1,13 +1,12 @@
 -- `columns::lengths` meets its contract. The invariant: the first `i` places are filled. Assumes nothing.
-use Prim.Native.Nat.{suc, _-_, _≤_}
-use mathlib.Core.Path.{_≡_, refl, sym, ap, _∙_}
+use Prim.Native.Nat.{_-_, _≤_}
+use mathlib.Core.Path.{_≡_, _∙_}
 use native.Mathlib.Omega.{arith}
+use native.Mathlib.Numerals.{add-one}
 use borrow.Author.Needs.{needs}
-use lib.ListN.{getD}
-use Rattle.split.proofs.Places.{places, places-start, places-set, column-places, few-count, proper-span}
 use Rattle.model.specs.Arrays.{segmentsIn, spanIn}
 use Rattle.model.specs.Spans.{spanLength}
-use native.Mathlib.Numerals.{add-one}
+use Rattle.split.proofs.Places.{places, places-start, places-set, column-places, few-count, proper-span}
 use Rattle.split.proofs.columns.lengths.Statement.{statement}
 use Rattle.split.proofs.columns.lengths.Tie as tie
 
@@ -46,7 +45,7 @@ wide16-requires-2 c κs = search needs
 
 sub-out : tie.Need-sub-out Inv-loop μ-loop
 unfolding segmentsIn spanIn
-sub-out c = 
+sub-out c =
     let proper = proper-span _ _ (c .before .before .before .before .before .before .before .before .pre) (c .before .before .before .before .loop .i) (omega arith) in
     omega arith
 
@@ -65,14 +64,14 @@ loop-less c = omega arith
 loop-again : tie.Need-loop-again Inv-loop μ-loop
 unfolding spanLength spanIn
 loop-again c = (
-    omega arith,
-    omega arith,
-    places-set 256 _ _ _ _ (omega arith) (c .before .before .before .before .loop .inv .2) (rw (c .before .wide16 .ensures .0, c .wide162 .ensures .0, add-one)),
+  omega arith,
+  omega arith,
+  places-set 256 _ _ _ _ (omega arith) (c .before .before .before .before .loop .inv .2) (rw (c .before .wide16 .ensures .0, c .wide162 .ensures .0, add-one)),
 )
 
 returns : tie.Need-returns Inv-loop μ-loop
 unfolding segmentsIn
-returns c = 
+returns c =
     let all : c .before .before .loop .i ≡ c .before .before .before .before .before .before .args .segments .count = omega arith in
     c .before .before .loop .inv .2 ∙ rw all (column-places 256 _ spanLength _)
 

@@ -1,14 +1,13 @@
 -- `columns::runs` meets its contract. The invariant: `out` runs begin among the first `i` segments. Assumes nothing.
-use Rattle.model.specs.Split.{runs}
-use Prim.Native.Nat.{suc, _-_, _≤_}
-use mathlib.Core.Path.{_≡_, refl, sym, ap, _∙_}
+use Prim.Native.Nat.{_-_, _≤_}
+use mathlib.Core.Path.{_≡_, refl}
 use native.Mathlib.Omega.{arith}
-use borrow.Author.Needs.{needs}
-use Rattle.model.specs.Blocks.{segmentAt, runsTo}
 use lib.ListN.{length}
-use Rattle.model.specs.Arrays.{segmentsIn, spanIn}
-use Rattle.split.proofs.Places.{few-count, runsTo-next, count-is}
+use Rattle.model.specs.Split.{runs}
+use Rattle.model.specs.Blocks.{segmentAt, runsTo}
+use Rattle.model.specs.Arrays.{segmentsIn}
 use Rattle.theory.proofs.Choice.{runsTo-le}
+use Rattle.split.proofs.Places.{few-count, runsTo-next, count-is}
 use Rattle.split.proofs.columns.runs.Statement.{statement}
 use Rattle.split.proofs.columns.runs.Tie as tie
 
@@ -36,14 +35,14 @@ loop-less c = omega arith
 
 loop-again : tie.Need-loop-again Inv-loop μ-loop
 loop-again c = (
-    omega arith,
-    omega arith,
-    runsTo-next (c .before .before .before .before .before .before .before .before .before .before .before .args .segments) (c .before .before .before .before .before .before .before .loop .i) (omega arith) _ _ _ (c .before .is-gap .ensures) (c .counted .ensures) (c .before .before .before .before .before .before .before .loop .inv .2),
+  omega arith,
+  omega arith,
+  runsTo-next (c .before .before .before .before .before .before .before .before .before .before .before .args .segments) (c .before .before .before .before .before .before .before .loop .i) (omega arith) _ _ _ (c .before .is-gap .ensures) (c .counted .ensures) (c .before .before .before .before .before .before .before .loop .inv .2),
 )
 
 returns : tie.Need-returns Inv-loop μ-loop
 unfolding runs
-returns c = 
+returns c =
     let all : c .before .before .loop .i ≡ length (segmentsIn (c .before .before .before .before .before .before .args .segments)) = omega (arith, count-is (c .before .before .before .before .before .before .args .segments)) in
     rw all at (c .before .before .loop .inv .2)
 

@@ -1,11 +1,10 @@
 -- `columns::values` meets its contract. The invariant: the first `i` places are filled. Assumes nothing.
-use Prim.Native.Nat.{suc, _-_, _≤_}
-use mathlib.Core.Path.{_≡_, refl, sym, ap, _∙_}
+use Prim.Native.Nat.{_-_, _≤_}
+use mathlib.Core.Path.{_≡_, _∙_}
 use native.Mathlib.Omega.{arith}
 use borrow.Author.Needs.{needs}
-use lib.ListN.{getD}
-use Rattle.split.proofs.Places.{places, places-start, places-set, column-places, few-count}
 use Rattle.model.specs.Arrays.{segmentsIn, spanIn}
+use Rattle.split.proofs.Places.{places, places-start, places-set, column-places, few-count}
 use Rattle.split.proofs.columns.values.Statement.{statement}
 use Rattle.split.proofs.columns.values.Tie as tie
 
@@ -45,14 +44,14 @@ loop-less c = omega arith
 loop-again : tie.Need-loop-again Inv-loop μ-loop
 unfolding spanIn
 loop-again c = (
-    omega arith,
-    omega arith,
-    places-set 256 _ _ _ _ (omega arith) (c .before .before .before .loop .inv .2) (c .wide32 .ensures),
+  omega arith,
+  omega arith,
+  places-set 256 _ _ _ _ (omega arith) (c .before .before .before .loop .inv .2) (c .wide32 .ensures),
 )
 
 returns : tie.Need-returns Inv-loop μ-loop
 unfolding segmentsIn
-returns c = 
+returns c =
     let all : c .before .before .loop .i ≡ c .before .before .before .before .before .args .segments .count = omega arith in
     c .before .before .loop .inv .2 ∙ rw all (column-places 256 _ (λ s. s .value) _)
 

@@ -1,24 +1,23 @@
 -- `rows::read_back` meets its contract: a recursion on the falling number of rows. Assumes nothing.
-use mathlib.Core.Path.{_≡_, refl, sym, ap, _∙_, subst}
-use Prim.Native.Nat.{_-_}
+use Prim.Native.Nat.{_-_, ℕ, _<_}
+use mathlib.Core.Path.{sym, subst}
 use native.Mathlib.Omega.{arith}
+use lib.ListN.{length-set}
 use borrow.Author.Needs.{needs}
-use lib.ListN.{length, length-set}
+use borrow.Fn.Kinds.{In}
+use borrow.Fn.PlainCycle.{Measures, is, falls, and}
 use Rattle.model.specs.Split.{rowsOf}
 use Rattle.model.specs.Arrays.{spanIn}
-use Rattle.blocks.proofs.Bounds.{measured-prefix}
+use Rattle.theory.proofs.Bounds.{measured-prefix}
 use Rattle.split.specs.Held.{cutsIn, Readable}
 use Rattle.split.proofs.Places.{few-spans}
 use Rattle.split.proofs.Reading.{readable-cut, rows-step}
-use Prim.Native.Nat.{ℕ, _<_}
-use borrow.Fn.Kinds.{In}
-use borrow.Fn.PlainCycle.{Measures, is, falls, and}
+use Rattle.split.proofs.rows.+read_back.{statement}
 use Rattle.split.proofs.rows.read_back.Reads as read-back
 use Rattle.split.proofs.rows.read_back.Kinds as read-back-kinds
 use Rattle.split.proofs.rows.+read_back.Lts-read_back as read-back-lts
 use Rattle.split.proofs.rows.row.Reads as row-reads
 use Rattle.split.proofs.rows.wide.Reads as wide-reads
-use Rattle.split.proofs.rows.+read_back.{statement}
 use Rattle.split.proofs.rows.+read_back.Tie.{close}
 
 abbrev μ-read-back : Measures 5 read-back-kinds.ps ℕ
@@ -100,7 +99,7 @@ read-back-row-requires : (t : ℕ) → read-back-lts.Need-row-requires (
   read-back-below t,
   read-back.Post,
 ) (read-back-at t) read-back.Post
-read-back-row-requires t c κs = 
+read-back-row-requires t c κs =
     let cut = readable-cut (c .before .before .before .args .table .now) (c .before .before .before .args .k) (c .before .before .before .args .i) (c .before .before .if1 .left) (c .before .before .before .pre .1 .1 .0) in
     (omega (arith, c .wide .ensures), c .before .before .before .pre .1 .1 .1)
 
@@ -132,18 +131,18 @@ read-back-read-back-requires : (t : ℕ) → read-back-lts.Need-read-back-requir
   read-back-below t,
   read-back.Post,
 ) (read-back-at t) read-back.Post
-read-back-read-back-requires t c κs = 
+read-back-read-back-requires t c κs =
     let cut = readable-cut (c .before .before .before .before .args .table .now) (c .before .before .before .before .args .k) (c .before .before .before .before .args .i) (c .before .before .before .if1 .left) (c .before .before .before .before .pre .1 .1 .0) in
     let is = c .before .wide .ensures in
     let below = cut .0 in (
-        omega (arith, c .before .before .before .before .pre .0),
+      omega (arith, c .before .before .before .before .pre .0),
+      (
+        (omega (arith, c .before .before .before .before .pre .1 .0 .0), simp length-set (c .before .before .before .before .pre .1 .0 .1)),
         (
-            (omega (arith, c .before .before .before .before .pre .1 .0 .0), simp length-set (c .before .before .before .before .pre .1 .0 .1)),
-            (
-                subst (Readable (c .before .before .before .before .args .table .now) (c .before .before .before .before .args .k - 1)) (sym is) (cut .1),
-                measured-prefix (spanIn (c .before .before .before .before .args .groups .now) (c .before .before .before .before .args .firsts .now) (c .before .before .before .before .args .lasts .now) (c .before .before .before .before .args .values .now)) (c .before .before .before .before .args .i) (c .before .before .before .before .pre .1 .1 .1) (c .before .wide .result) (omega arith),
-            ),
+          subst (Readable (c .before .before .before .before .args .table .now) (c .before .before .before .before .args .k - 1)) (sym is) (cut .1),
+          measured-prefix (spanIn (c .before .before .before .before .args .groups .now) (c .before .before .before .before .args .firsts .now) (c .before .before .before .before .args .lasts .now) (c .before .before .before .before .args .values .now)) (c .before .before .before .before .args .i) (c .before .before .before .before .pre .1 .1 .1) (c .before .wide .result) (omega arith),
         ),
+      ),
     )
 
 read-back-returns-2 : (t : ℕ) → read-back-lts.Need-returns-2 (

@@ -1,20 +1,21 @@
 -- `rows::row` meets its contract. The invariant: `block` has the totals of the segments from `at` up to `i`. Assumes nothing.
+use Prim.Native.Nat.{ℕ, _-_, _≤_}
+use mathlib.Core.Path.{_≡_, sym, ap, _∙_, subst}
 use native.Mathlib.Numerals.{add-one}
+use native.Mathlib.Omega.{arith}
+use borrow.Author.Needs.{needs}
 use Rattle.model.specs.Spans.{spanLength}
 use Rattle.model.specs.Blocks.{add}
 use Rattle.model.specs.Calls.{rowOfSpan}
-use Rattle.blocks.specs.Room.{Room}
-use Rattle.blocks.proofs.Bounds.{measured-block, nearest-le}
+use Rattle.model.specs.Arrays.{spanIn}
+use Rattle.model.specs.Blocks as model
 use Rattle.theory.proofs.Blocks.{block-empty}
+use Rattle.model.specs.Room.{Room}
+use Rattle.theory.proofs.Bounds.{measured-block}
+use Rattle.blocks.proofs.Bounds.{nearest-le}
+use Rattle.blocks.specs.Meaning.{totalsIn}
 use Rattle.split.proofs.Places.{few-spans, proper-span}
 use Rattle.split.proofs.Range.{span-range, span-front}
-use Prim.Native.Nat.{ℕ, suc, _+_, _-_, _≤_, _<_}
-use native.Mathlib.Omega.{arith}
-use borrow.Author.Needs.{needs}
-use mathlib.Core.Path.{_≡_, refl, sym, ap, _∙_, subst}
-use Rattle.model.specs.Blocks as model
-use Rattle.model.specs.Arrays.{spanIn}
-use Rattle.blocks.specs.Meaning.{totalsIn}
 use Rattle.split.proofs.rows.row.Statement.{statement}
 use Rattle.split.proofs.rows.row.Tie as tie
 
@@ -75,7 +76,7 @@ wide16-requires-2 c κs = search needs
 
 sub-length : tie.Need-sub-length Inv-loop μ-loop
 unfolding spanIn
-sub-length c = 
+sub-length c =
     let proper = proper-span (spanIn (c .before .before .before .before .before .before .args .groups .now) (c .before .before .before .before .before .before .args .firsts .now) (c .before .before .before .before .before .before .args .lasts .now) (c .before .before .before .before .before .before .args .values .now)) _ (c .before .before .before .before .before .before .pre .1) (c .before .before .before .before .before .loop .at - 1) (omega arith) in
     omega arith
 
@@ -90,12 +91,12 @@ wide32-requires c κs = search needs
 
 make-requires : tie.Need-make-requires Inv-loop μ-loop
 unfolding spanLength spanIn
-make-requires c κs = 
+make-requires c κs =
     let range = span-range (spanIn (c .before .before .before .before .before .before .before .before .args .groups .now) (c .before .before .before .before .before .before .before .before .args .firsts .now) (c .before .before .before .before .before .before .before .before .args .lasts .now) (c .before .before .before .before .before .before .before .before .args .values .now)) _ (c .before .before .before .before .before .before .before .before .pre .1) (c .before .before .before .before .before .before .before .loop .at - 1) (omega arith) in
     rw (c .before .before .before .before .wide16 .ensures .0, c .before .before .wide162 .ensures .0, c .wide32 .ensures, add-one) range
 
 add-requires : tie.Need-add-requires Inv-loop μ-loop
-add-requires c κs = 
+add-requires c κs =
     subst Room (sym (grown c))
     (measured-block (spanIn (c .before .before .before .before .before .before .before .before .before .args .groups .now) (c .before .before .before .before .before .before .before .before .before .args .firsts .now) (c .before .before .before .before .before .before .before .before .before .args .lasts .now) (c .before .before .before .before .before .before .before .before .before .args .values .now)) _ (c .before .before .before .before .before .before .before .before .before .pre .1) _ _ (omega arith) (omega arith) .room)
 
@@ -128,7 +129,7 @@ row-value-requires c κs = room (c .before .before .before)
 
 cast-t40 : tie.Need-cast-t40 Inv-loop μ-loop
 unfolding totalsIn
-cast-t40 c = 
+cast-t40 c =
     let small = nearest-le _ _ (room (c .before .before .before .before) .sum-le) in
     omega (arith, c .row-value .ensures)
 

@@ -1,24 +1,22 @@
+-- `table::fill` meets its contract. Between rows the table is filled to row `k`; between cells, to cell `i`; between
+-- candidates, what is left of the scan is the cell. Assumes nothing.
+use Prim.Native.Nat.{ℕ, _+_, _-_, _≤_}
 use mathlib.Core.Logic.{⊎-elim}
-use Rattle.model.specs.Split.{cell}
-use Rattle.split.specs.Held.{bestIn}
-use Rattle.blocks.specs.Room.{Room, Block}
-use Rattle.split.specs.Held.{lastRow}
-use Rattle.split.proofs.Errors.{some-in}
-use Rattle.split.proofs.Range.{made-range, block-range, total-range, gaps-at}
-use Rattle.split.proofs.Steps.{comparable, column-first, rows-start, rows-on, cells-start, scan-start, scan-next, scan-early, scan-last, cells-next, cut-small, count-small, column-next, rows-next, fills, some-segments}
-use Rattle.model.specs.Blocks.{add, totals, block, segmentAt}
-use Rattle.model.specs.Split.{least, errorOf, gapBelow, leastOf}
-use Rattle.model.specs.declared.Segments.{Segments}
-use Rattle.blocks.specs.Meaning.{totalsIn}
-use Rattle.split.specs.Held.{errorIn}
-use Rattle.split.proofs.Range.{totals-front, error-of}
-use Rattle.split.proofs.Places.{few-count, count-is}
-use Prim.Native.Nat.{ℕ, zero, suc, _+_, _-_, _*_, _≤_, _<_, zero-le}
+use mathlib.Core.Path.{_≡_, sym, ap, _∙_, subst}
 use native.Mathlib.Omega.{arith}
+use lib.ListN.{getD}
 use borrow.Author.Needs.{needs}
-use mathlib.Core.Path.{_≡_, refl, sym, ap, _∙_, subst}
-use lib.ListN.{length, getD}
+use Rattle.model.specs.Split.{cell, least, errorOf, gapBelow, leastOf}
+use Rattle.model.specs.Blocks.{add, totals, block, segmentAt}
+use Rattle.model.specs.declared.Segments.{Segments}
 use Rattle.model.specs.Arrays.{segmentsIn}
+use Rattle.model.specs.Room.{Room, Block}
+use Rattle.blocks.specs.Meaning.{totalsIn}
+use Rattle.split.specs.Held.{bestIn, lastRow, errorIn}
+use Rattle.split.proofs.Errors.{some-in}
+use Rattle.split.proofs.Range.{made-range, block-range, total-range, gaps-at, totals-front, error-of}
+use Rattle.split.proofs.Steps.{comparable, column-first, rows-start, rows-on, cells-start, scan-start, scan-next, scan-early, scan-last, cells-next, cut-small, count-small, column-next, rows-next, fills, some-segments}
+use Rattle.split.proofs.Places.{few-count, count-is}
 use Rattle.split.proofs.Filling.{Rows, Cells, Scanning}
 use Rattle.split.proofs.table.fill.Statement.{statement}
 use Rattle.split.proofs.table.fill.Tie as tie
@@ -118,14 +116,14 @@ no-cuts-requires : tie.Need-no-cuts-requires Inv-scan μ-scan Inv-loop2 μ-loop2
 no-cuts-requires c κs = search needs
 
 goes-on-requires : tie.Need-goes-on-requires Inv-scan μ-scan Inv-loop2 μ-loop2 Inv-loop μ-loop
-goes-on-requires c κs = 
+goes-on-requires c κs =
     let room = c .before .before .before .before .before .before .before .before .before .before .pre .1 .1 in
     comparable (segmentsIn (c .before .before .before .before .before .before .before .before .before .before .args .segments)) (c .before .before .before .before .before .before .before .before .before .before .pre .0) _ _ 1 (c .before .before .before .before .before .before .runs .ensures)
     (column-first (segmentsIn (c .before .before .before .before .before .before .before .before .before .before .args .segments)) (c .before .before .before .before .before .before .before .before .before .before .pre .0) (c .before .before .before .before .before .before .before .before .before .before .args .bound) (c .before .before .before .before .before .before .before .before .before .before .pre .1 .0) _ (c .before .before .before .before .before .last-row .ensures ∙ ap (lastRow (c .before .before .before .before .before .before .before .before .before .before .args .bound)) (sym (count-is (c .before .before .before .before .before .before .before .before .before .before .args .segments)))) _ (c .before .before .before .before .before .before .runs .ensures) _ _ (some-segments _ _ _ room (count-is (c .before .before .before .before .before .before .before .before .before .before .args .segments))) (last-of (c .before .before .before .before .before .before .before .before .before .before .args .segments) 1 _ (c .before .before .before .before .first-row .ensures (c .before .before .before .before .before .before .before .before .before .before .args .segments .count) (omega arith))) (c .before .before .no-column .ensures))
     (some-segments _ _ _ room (count-is (c .before .before .before .before .before .before .before .before .before .before .args .segments))) _ (c .before .before .before .before .before .before .before .before .before .before .pre .1 .0) (omega arith)
 
 loop-holds : tie.Need-loop-holds Inv-scan μ-scan Inv-loop2 μ-loop2 Inv-loop μ-loop
-loop-holds c = 
+loop-holds c =
     rows-start (segmentsIn (c .before .before .before .before .before .before .before .before .before .before .before .args .segments)) (c .before .before .before .before .before .before .before .before .before .before .before .pre .0) (c .before .before .before .before .before .before .before .before .before .before .before .args .bound) (c .before .before .before .before .before .before .before .before .before .before .before .pre .1 .0) _ (c .before .before .before .before .before .before .last-row .ensures ∙ ap (lastRow (c .before .before .before .before .before .before .before .before .before .before .before .args .bound)) (sym (count-is (c .before .before .before .before .before .before .before .before .before .before .before .args .segments)))) _ (c .before .before .before .before .before .before .before .runs .ensures) _ _ _ _ _ _
     (subst (λ (x : ℕ). 1 ≤ x) (sym (c .before .before .before .before .before .before .last-row .ensures)) (c .before .before .before .before .before .before .before .before .before .before .before .pre .1 .1))
     (λ i le. c .before .before .before .before .before .first-row .ensures i (omega (arith, count-is (c .before .before .before .before .before .before .before .before .before .before .before .args .segments)))) (last-of (c .before .before .before .before .before .before .before .before .before .before .before .args .segments) 1 _ (c .before .before .before .before .before .first-row .ensures (c .before .before .before .before .before .before .before .before .before .before .before .args .segments .count) (omega arith))) (c .before .before .before .before .no-errors .ensures) (c .before .before .before .no-column .ensures) (c .before .before .no-cuts .ensures) (c .goes-on .ensures)
@@ -149,8 +147,8 @@ later-requires : tie.Need-later-requires Inv-scan μ-scan Inv-loop2 μ-loop2 Inv
 later-requires c κs = search needs
 
 scan-holds : tie.Need-scan-holds Inv-scan μ-scan Inv-loop2 μ-loop2 Inv-loop μ-loop
-scan-holds c = 
-    let first = c .before .before .before .before .before .loop .inv .from in let cells = c .before .before .before .loop2 .inv .from in let taken = c .before .if1 .taken in 
+scan-holds c =
+    let first = c .before .before .before .before .before .loop .inv .from in let cells = c .before .before .before .loop2 .inv .from in let taken = c .before .if1 .taken in
     scan-start (segmentsIn (c .before .before .before .before .before .before .before .before .before .before .before .before .before .before .before .before .before .args .segments)) _ _ _ _ first cells (gaps-at (segmentsIn (c .before .before .before .before .before .before .before .before .before .before .before .before .before .before .before .before .before .args .segments)) _ _ (c .before .before .before .before .before .before .before .before .before .before .before .before .before .before .gaps .ensures) (omega (arith, count-is (c .before .before .before .before .before .before .before .before .before .before .before .before .before .before .before .before .before .args .segments)))) (c .later .ensures)
 
 sub-at : tie.Need-sub-at Inv-scan μ-scan Inv-loop2 μ-loop2 Inv-loop μ-loop
@@ -169,15 +167,15 @@ array-read-make-2 : tie.Need-array-read-make-2 Inv-scan μ-scan Inv-loop2 μ-loo
 array-read-make-2 c = let few = c .before .before .before .before .before .before .loop .inv .few in let taken = c .before .before .if1 .taken in let to = c .scan .inv .to in omega (arith, count-is (c .before .before .before .before .before .before .before .before .before .before .before .before .before .before .before .before .before .before .args .segments))
 
 make-requires : tie.Need-make-requires Inv-scan μ-scan Inv-loop2 μ-loop2 Inv-loop μ-loop
-make-requires c κs = let from = c .scan .inv .from in let to = c .scan .inv .to in let taken = c .before .before .if1 .taken in 
+make-requires c κs = let from = c .scan .inv .from in let to = c .scan .inv .to in let taken = c .before .before .if1 .taken in
     made-range (segmentsIn (c .before .before .before .before .before .before .before .before .before .before .before .before .before .before .before .before .before .before .args .segments)) _ _ (c .before .before .before .before .before .before .before .before .before .before .before .before .before .before .before .before .before .lengths .ensures) (c .before .before .before .before .before .before .before .before .before .before .before .before .before .before .before .before .values .ensures) _ (omega (arith, count-is (c .before .before .before .before .before .before .before .before .before .before .before .before .before .before .before .before .before .before .args .segments))) (c .before .before .before .before .before .before .before .before .before .before .before .before .before .before .before .before .before .before .pre .0)
 
 add-requires : tie.Need-add-requires Inv-scan μ-scan Inv-loop2 μ-loop2 Inv-loop μ-loop
-add-requires c κs = let from = c .before .scan .inv .from in let to = c .before .scan .inv .to in let taken = c .before .before .before .if1 .taken in 
+add-requires c κs = let from = c .before .scan .inv .from in let to = c .before .scan .inv .to in let taken = c .before .before .before .if1 .taken in
     subst Room (sym (grown c)) (block-range (segmentsIn (c .before .before .before .before .before .before .before .before .before .before .before .before .before .before .before .before .before .before .before .args .segments)) (c .before .before .before .before .before .before .before .before .before .before .before .before .before .before .before .before .before .before .before .pre .0) _ _ (omega arith) (omega (arith, count-is (c .before .before .before .before .before .before .before .before .before .before .before .before .before .before .before .before .before .before .before .args .segments))) .room)
 
 error-requires : tie.Need-error-requires Inv-scan μ-scan Inv-loop2 μ-loop2 Inv-loop μ-loop
-error-requires c κs = let from = c .before .before .scan .inv .from in let to = c .before .before .scan .inv .to in let taken = c .before .before .before .before .if1 .taken in 
+error-requires c κs = let from = c .before .before .scan .inv .from in let to = c .before .before .scan .inv .to in let taken = c .before .before .before .before .if1 .taken in
     subst Block (sym (c .add .ensures ∙ grown (c .before))) (block-range (segmentsIn (c .before .before .before .before .before .before .before .before .before .before .before .before .before .before .before .before .before .before .before .before .args .segments)) (c .before .before .before .before .before .before .before .before .before .before .before .before .before .before .before .before .before .before .before .before .pre .0) _ _ (omega arith) (omega (arith, count-is (c .before .before .before .before .before .before .before .before .before .before .before .before .before .before .before .before .before .before .before .before .args .segments))))
 
 mul-plus : tie.Need-mul-plus Inv-scan μ-scan Inv-loop2 μ-loop2 Inv-loop μ-loop
@@ -188,7 +186,7 @@ array-read-plus c = let few = c .before .before .before .before .before .before 
 
 plus-requires : tie.Need-plus-requires Inv-scan μ-scan Inv-loop2 μ-loop2 Inv-loop μ-loop
 plus-requires c κs = λ lt.
-    let from = c .before .before .before .scan .inv .from in let to = c .before .before .before .scan .inv .to in let taken = c .before .before .before .before .before .if1 .taken in 
+    let from = c .before .before .before .scan .inv .from in let to = c .before .before .before .scan .inv .to in let taken = c .before .before .before .before .before .if1 .taken in
     let most = total-range (segmentsIn (c .before .before .before .before .before .before .before .before .before .before .before .before .before .before .before .before .before .before .before .before .before .args .segments)) (c .before .before .before .before .before .before .before .before .before .before .before .before .before .before .before .before .before .before .before .before .before .pre .0) (c .before .before .before .before .before .before .before .before .before .loop .k + 1 - 1) (c .before .before .before .scan .at - 1) (c .before .before .before .before .before .before .before .loop2 .i) _ (omega arith) (omega (arith, count-is (c .before .before .before .before .before .before .before .before .before .before .before .before .before .before .before .before .before .before .before .before .before .args .segments))) (sym (before-is (c .before .before .before)) ∙ some-in _ lt) in
     omega (arith, error-is c)
 
@@ -199,12 +197,12 @@ scan-less : tie.Need-scan-less Inv-scan μ-scan Inv-loop2 μ-loop2 Inv-loop μ-l
 scan-less c = let from = c .before .before .before .before .before .before .before .before .scan .inv .from in omega arith
 
 scan-again : tie.Need-scan-again Inv-scan μ-scan Inv-loop2 μ-loop2 Inv-loop μ-loop
-scan-again c = 
+scan-again c =
     scan-next (segmentsIn (c .before .before .before .before .before .before .before .before .before .before .before .before .before .before .before .before .before .before .before .before .before .before .before .before .before .before .args .segments)) _ _ _ _ _ _ _ (c .before .before .before .before .before .before .before .before .scan .inv) _ _ _ (error-is (c .before .before .before .before .before)) (c .before .before .before .before .plus .ensures) (before-is (c .before .before .before .before .before .before .before .before)) (c .before .before .before .weigh .ensures) (omega arith) (omega arith) (c .before .if2 .left) (c .if3 .left) _ (c .before .before .before .before .before .before .add .ensures ∙ grown (c .before .before .before .before .before .before .before))
 
 cast-table : tie.Need-cast-table Inv-scan μ-scan Inv-loop2 μ-loop2 Inv-loop μ-loop
-cast-table c = 
-    let few = c .before .before .before .before .before .before .before .before .before .before .before .before .before .before .loop .inv .few in let rows = c .before .before .before .before .before .before .before .before .before .before .before .before .before .before .loop .inv .rows in let first = c .before .before .before .before .before .before .before .before .before .before .before .before .before .before .loop .inv .from in let on = rows-on (segmentsIn (c .before .before .before .before .before .before .before .before .before .before .before .before .before .before .before .before .before .before .before .before .before .before .before .before .before .before .args .segments)) (c .before .before .before .before .before .before .before .before .before .before .before .before .before .before .before .before .before .before .before .before .before .before .before .before .before .before .pre .0) (c .before .before .before .before .before .before .before .before .before .before .before .before .before .before .before .before .before .before .before .before .before .before .before .before .before .before .args .bound) (c .before .before .before .before .before .before .before .before .before .before .before .before .before .before .before .before .before .before .before .before .before .before .before .before .before .before .pre .1 .0) _ (c .before .before .before .before .before .before .before .before .before .before .before .before .before .before .before .before .before .before .before .before .before .last-row .ensures ∙ ap (lastRow (c .before .before .before .before .before .before .before .before .before .before .before .before .before .before .before .before .before .before .before .before .before .before .before .before .before .before .args .bound)) (sym (count-is (c .before .before .before .before .before .before .before .before .before .before .before .before .before .before .before .before .before .before .before .before .before .before .before .before .before .before .args .segments)))) _ (c .before .before .before .before .before .before .before .before .before .before .before .before .before .before .before .before .before .before .before .before .before .before .runs .ensures) _ _ _ _ _ _ _ (c .before .before .before .before .before .before .before .before .before .before .before .before .before .before .loop .inv) (c .before .before .before .before .before .before .before .before .before .before .before .before .before .loop-test .taken) in let taken = c .before .before .before .before .before .before .before .before .before .before .if1 .taken in 
+cast-table c =
+    let few = c .before .before .before .before .before .before .before .before .before .before .before .before .before .before .loop .inv .few in let rows = c .before .before .before .before .before .before .before .before .before .before .before .before .before .before .loop .inv .rows in let first = c .before .before .before .before .before .before .before .before .before .before .before .before .before .before .loop .inv .from in let on = rows-on (segmentsIn (c .before .before .before .before .before .before .before .before .before .before .before .before .before .before .before .before .before .before .before .before .before .before .before .before .before .before .args .segments)) (c .before .before .before .before .before .before .before .before .before .before .before .before .before .before .before .before .before .before .before .before .before .before .before .before .before .before .pre .0) (c .before .before .before .before .before .before .before .before .before .before .before .before .before .before .before .before .before .before .before .before .before .before .before .before .before .before .args .bound) (c .before .before .before .before .before .before .before .before .before .before .before .before .before .before .before .before .before .before .before .before .before .before .before .before .before .before .pre .1 .0) _ (c .before .before .before .before .before .before .before .before .before .before .before .before .before .before .before .before .before .before .before .before .before .last-row .ensures ∙ ap (lastRow (c .before .before .before .before .before .before .before .before .before .before .before .before .before .before .before .before .before .before .before .before .before .before .before .before .before .before .args .bound)) (sym (count-is (c .before .before .before .before .before .before .before .before .before .before .before .before .before .before .before .before .before .before .before .before .before .before .before .before .before .before .args .segments)))) _ (c .before .before .before .before .before .before .before .before .before .before .before .before .before .before .before .before .before .before .before .before .before .before .runs .ensures) _ _ _ _ _ _ _ (c .before .before .before .before .before .before .before .before .before .before .before .before .before .before .loop .inv) (c .before .before .before .before .before .before .before .before .before .before .before .before .before .loop-test .taken) in let taken = c .before .before .before .before .before .before .before .before .before .before .if1 .taken in
     let small = cut-small (segmentsIn (c .before .before .before .before .before .before .before .before .before .before .before .before .before .before .before .before .before .before .before .before .before .before .before .before .before .before .args .segments)) _ _ _ _ _ (c .before .before .before .before .before .before .before .before .before .before .before .before .loop2 .inv) _ (found-is (c .before)) (omega arith) (omega arith) few (omega (arith, count-is (c .before .before .before .before .before .before .before .before .before .before .before .before .before .before .before .before .before .before .before .before .before .before .before .before .before .before .args .segments))) in
     omega arith
 
@@ -227,8 +225,8 @@ array-write-errors : tie.Need-array-write-errors Inv-scan μ-scan Inv-loop2 μ-l
 array-write-errors c = let few = c .before .before .before .before .before .before .before .before .before .before .before .before .before .before .loop .inv .few in let rows = c .before .before .before .before .before .before .before .before .before .before .before .before .before .before .loop .inv .rows in let on = rows-on (segmentsIn (c .before .before .before .before .before .before .before .before .before .before .before .before .before .before .before .before .before .before .before .before .before .before .before .before .before .before .args .segments)) (c .before .before .before .before .before .before .before .before .before .before .before .before .before .before .before .before .before .before .before .before .before .before .before .before .before .before .pre .0) (c .before .before .before .before .before .before .before .before .before .before .before .before .before .before .before .before .before .before .before .before .before .before .before .before .before .before .args .bound) (c .before .before .before .before .before .before .before .before .before .before .before .before .before .before .before .before .before .before .before .before .before .before .before .before .before .before .pre .1 .0) _ (c .before .before .before .before .before .before .before .before .before .before .before .before .before .before .before .before .before .before .before .before .before .last-row .ensures ∙ ap (lastRow (c .before .before .before .before .before .before .before .before .before .before .before .before .before .before .before .before .before .before .before .before .before .before .before .before .before .before .args .bound)) (sym (count-is (c .before .before .before .before .before .before .before .before .before .before .before .before .before .before .before .before .before .before .before .before .before .before .before .before .before .before .args .segments)))) _ (c .before .before .before .before .before .before .before .before .before .before .before .before .before .before .before .before .before .before .before .before .before .before .runs .ensures) _ _ _ _ _ _ _ (c .before .before .before .before .before .before .before .before .before .before .before .before .before .before .loop .inv) (c .before .before .before .before .before .before .before .before .before .before .before .before .before .loop-test .taken) in let taken = c .before .before .before .before .before .before .before .before .before .before .if1 .taken in omega (arith, count-is (c .before .before .before .before .before .before .before .before .before .before .before .before .before .before .before .before .before .before .before .before .before .before .before .before .before .before .args .segments))
 
 add-weighed : tie.Need-add-weighed Inv-scan μ-scan Inv-loop2 μ-loop2 Inv-loop μ-loop
-add-weighed c = 
-    let few = c .before .before .before .before .before .before .before .before .before .before .before .before .before .before .before .loop .inv .few in let rows = c .before .before .before .before .before .before .before .before .before .before .before .before .before .before .before .loop .inv .rows in let first = c .before .before .before .before .before .before .before .before .before .before .before .before .before .before .before .loop .inv .from in let on = rows-on (segmentsIn (c .before .before .before .before .before .before .before .before .before .before .before .before .before .before .before .before .before .before .before .before .before .before .before .before .before .before .before .args .segments)) (c .before .before .before .before .before .before .before .before .before .before .before .before .before .before .before .before .before .before .before .before .before .before .before .before .before .before .before .pre .0) (c .before .before .before .before .before .before .before .before .before .before .before .before .before .before .before .before .before .before .before .before .before .before .before .before .before .before .before .args .bound) (c .before .before .before .before .before .before .before .before .before .before .before .before .before .before .before .before .before .before .before .before .before .before .before .before .before .before .before .pre .1 .0) _ (c .before .before .before .before .before .before .before .before .before .before .before .before .before .before .before .before .before .before .before .before .before .before .last-row .ensures ∙ ap (lastRow (c .before .before .before .before .before .before .before .before .before .before .before .before .before .before .before .before .before .before .before .before .before .before .before .before .before .before .before .args .bound)) (sym (count-is (c .before .before .before .before .before .before .before .before .before .before .before .before .before .before .before .before .before .before .before .before .before .before .before .before .before .before .before .args .segments)))) _ (c .before .before .before .before .before .before .before .before .before .before .before .before .before .before .before .before .before .before .before .before .before .before .before .runs .ensures) _ _ _ _ _ _ _ (c .before .before .before .before .before .before .before .before .before .before .before .before .before .before .before .loop .inv) (c .before .before .before .before .before .before .before .before .before .before .before .before .before .before .loop-test .taken) in let taken = c .before .before .before .before .before .before .before .before .before .before .before .if1 .taken in 
+add-weighed c =
+    let few = c .before .before .before .before .before .before .before .before .before .before .before .before .before .before .before .loop .inv .few in let rows = c .before .before .before .before .before .before .before .before .before .before .before .before .before .before .before .loop .inv .rows in let first = c .before .before .before .before .before .before .before .before .before .before .before .before .before .before .before .loop .inv .from in let on = rows-on (segmentsIn (c .before .before .before .before .before .before .before .before .before .before .before .before .before .before .before .before .before .before .before .before .before .before .before .before .before .before .before .args .segments)) (c .before .before .before .before .before .before .before .before .before .before .before .before .before .before .before .before .before .before .before .before .before .before .before .before .before .before .before .pre .0) (c .before .before .before .before .before .before .before .before .before .before .before .before .before .before .before .before .before .before .before .before .before .before .before .before .before .before .before .args .bound) (c .before .before .before .before .before .before .before .before .before .before .before .before .before .before .before .before .before .before .before .before .before .before .before .before .before .before .before .pre .1 .0) _ (c .before .before .before .before .before .before .before .before .before .before .before .before .before .before .before .before .before .before .before .before .before .before .last-row .ensures ∙ ap (lastRow (c .before .before .before .before .before .before .before .before .before .before .before .before .before .before .before .before .before .before .before .before .before .before .before .before .before .before .before .args .bound)) (sym (count-is (c .before .before .before .before .before .before .before .before .before .before .before .before .before .before .before .before .before .before .before .before .before .before .before .before .before .before .before .args .segments)))) _ (c .before .before .before .before .before .before .before .before .before .before .before .before .before .before .before .before .before .before .before .before .before .before .before .runs .ensures) _ _ _ _ _ _ _ (c .before .before .before .before .before .before .before .before .before .before .before .before .before .before .before .loop .inv) (c .before .before .before .before .before .before .before .before .before .before .before .before .before .before .loop-test .taken) in let taken = c .before .before .before .before .before .before .before .before .before .before .before .if1 .taken in
     let small = count-small (segmentsIn (c .before .before .before .before .before .before .before .before .before .before .before .before .before .before .before .before .before .before .before .before .before .before .before .before .before .before .before .args .segments)) _ _ _ _ _ (c .before .before .before .before .before .before .before .before .before .before .before .before .before .loop2 .inv) _ (found-is (c .before .before)) (omega arith) (omega arith) few (omega (arith, count-is (c .before .before .before .before .before .before .before .before .before .before .before .before .before .before .before .before .before .before .before .before .before .before .before .before .before .before .before .args .segments))) in
     omega arith
 
@@ -239,8 +237,8 @@ loop2-less : tie.Need-loop2-less Inv-scan μ-scan Inv-loop2 μ-loop2 Inv-loop μ
 loop2-less c = let taken = c .before .before .before .before .before .before .before .before .before .before .before .if1 .taken in omega arith
 
 loop2-again : tie.Need-loop2-again Inv-scan μ-scan Inv-loop2 μ-loop2 Inv-loop μ-loop
-loop2-again c = 
-    let few = c .before .before .before .before .before .before .before .before .before .before .before .before .before .before .before .loop .inv .few in let rows = c .before .before .before .before .before .before .before .before .before .before .before .before .before .before .before .loop .inv .rows in let first = c .before .before .before .before .before .before .before .before .before .before .before .before .before .before .before .loop .inv .from in let on = rows-on (segmentsIn (c .before .before .before .before .before .before .before .before .before .before .before .before .before .before .before .before .before .before .before .before .before .before .before .before .before .before .before .args .segments)) (c .before .before .before .before .before .before .before .before .before .before .before .before .before .before .before .before .before .before .before .before .before .before .before .before .before .before .before .pre .0) (c .before .before .before .before .before .before .before .before .before .before .before .before .before .before .before .before .before .before .before .before .before .before .before .before .before .before .before .args .bound) (c .before .before .before .before .before .before .before .before .before .before .before .before .before .before .before .before .before .before .before .before .before .before .before .before .before .before .before .pre .1 .0) _ (c .before .before .before .before .before .before .before .before .before .before .before .before .before .before .before .before .before .before .before .before .before .before .last-row .ensures ∙ ap (lastRow (c .before .before .before .before .before .before .before .before .before .before .before .before .before .before .before .before .before .before .before .before .before .before .before .before .before .before .before .args .bound)) (sym (count-is (c .before .before .before .before .before .before .before .before .before .before .before .before .before .before .before .before .before .before .before .before .before .before .before .before .before .before .before .args .segments)))) _ (c .before .before .before .before .before .before .before .before .before .before .before .before .before .before .before .before .before .before .before .before .before .before .before .runs .ensures) _ _ _ _ _ _ _ (c .before .before .before .before .before .before .before .before .before .before .before .before .before .before .before .loop .inv) (c .before .before .before .before .before .before .before .before .before .before .before .before .before .before .loop-test .taken) in let taken = c .before .before .before .before .before .before .before .before .before .before .before .if1 .taken in 
+loop2-again c =
+    let few = c .before .before .before .before .before .before .before .before .before .before .before .before .before .before .before .loop .inv .few in let rows = c .before .before .before .before .before .before .before .before .before .before .before .before .before .before .before .loop .inv .rows in let first = c .before .before .before .before .before .before .before .before .before .before .before .before .before .before .before .loop .inv .from in let on = rows-on (segmentsIn (c .before .before .before .before .before .before .before .before .before .before .before .before .before .before .before .before .before .before .before .before .before .before .before .before .before .before .before .args .segments)) (c .before .before .before .before .before .before .before .before .before .before .before .before .before .before .before .before .before .before .before .before .before .before .before .before .before .before .before .pre .0) (c .before .before .before .before .before .before .before .before .before .before .before .before .before .before .before .before .before .before .before .before .before .before .before .before .before .before .before .args .bound) (c .before .before .before .before .before .before .before .before .before .before .before .before .before .before .before .before .before .before .before .before .before .before .before .before .before .before .before .pre .1 .0) _ (c .before .before .before .before .before .before .before .before .before .before .before .before .before .before .before .before .before .before .before .before .before .before .last-row .ensures ∙ ap (lastRow (c .before .before .before .before .before .before .before .before .before .before .before .before .before .before .before .before .before .before .before .before .before .before .before .before .before .before .before .args .bound)) (sym (count-is (c .before .before .before .before .before .before .before .before .before .before .before .before .before .before .before .before .before .before .before .before .before .before .before .before .before .before .before .args .segments)))) _ (c .before .before .before .before .before .before .before .before .before .before .before .before .before .before .before .before .before .before .before .before .before .before .before .runs .ensures) _ _ _ _ _ _ _ (c .before .before .before .before .before .before .before .before .before .before .before .before .before .before .before .loop .inv) (c .before .before .before .before .before .before .before .before .before .before .before .before .before .before .loop-test .taken) in let taken = c .before .before .before .before .before .before .before .before .before .before .before .if1 .taken in
     cells-next (segmentsIn (c .before .before .before .before .before .before .before .before .before .before .before .before .before .before .before .before .before .before .before .before .before .before .before .before .before .before .before .args .segments)) _ _ _ _ _ (c .before .before .before .before .before .before .before .before .before .before .before .before .before .loop2 .inv) _ (found-is (c .before .before)) (omega arith) (omega arith) few (omega (arith, count-is (c .before .before .before .before .before .before .before .before .before .before .before .before .before .before .before .before .before .before .before .before .before .before .before .before .before .before .before .args .segments)))
 
 mul-column-2 : tie.Need-mul-column-2 Inv-scan μ-scan Inv-loop2 μ-loop2 Inv-loop μ-loop
@@ -258,16 +256,16 @@ array-write-column-2 :
 array-write-column-2 c = let rows = c .before .before .before .before .loop .inv .rows in let on = rows-on (segmentsIn (c .before .before .before .before .before .before .before .before .before .before .before .before .before .before .before .before .args .segments)) (c .before .before .before .before .before .before .before .before .before .before .before .before .before .before .before .before .pre .0) (c .before .before .before .before .before .before .before .before .before .before .before .before .before .before .before .before .args .bound) (c .before .before .before .before .before .before .before .before .before .before .before .before .before .before .before .before .pre .1 .0) _ (c .before .before .before .before .before .before .before .before .before .before .before .last-row .ensures ∙ ap (lastRow (c .before .before .before .before .before .before .before .before .before .before .before .before .before .before .before .before .args .bound)) (sym (count-is (c .before .before .before .before .before .before .before .before .before .before .before .before .before .before .before .before .args .segments)))) _ (c .before .before .before .before .before .before .before .before .before .before .before .before .runs .ensures) _ _ _ _ _ _ _ (c .before .before .before .before .loop .inv) (c .before .before .before .loop-test .taken) in omega arith
 
 goes-on-requires-2 : tie.Need-goes-on-requires-2 Inv-scan μ-scan Inv-loop2 μ-loop2 Inv-loop μ-loop
-goes-on-requires-2 c κs = 
-    let rows = c .before .before .before .before .before .loop .inv .rows in let inside = c .before .before .before .before .before .loop .inv .segments in let on = rows-on (segmentsIn (c .before .before .before .before .before .before .before .before .before .before .before .before .before .before .before .before .before .args .segments)) (c .before .before .before .before .before .before .before .before .before .before .before .before .before .before .before .before .before .pre .0) (c .before .before .before .before .before .before .before .before .before .before .before .before .before .before .before .before .before .args .bound) (c .before .before .before .before .before .before .before .before .before .before .before .before .before .before .before .before .before .pre .1 .0) _ (c .before .before .before .before .before .before .before .before .before .before .before .before .last-row .ensures ∙ ap (lastRow (c .before .before .before .before .before .before .before .before .before .before .before .before .before .before .before .before .before .args .bound)) (sym (count-is (c .before .before .before .before .before .before .before .before .before .before .before .before .before .before .before .before .before .args .segments)))) _ (c .before .before .before .before .before .before .before .before .before .before .before .before .before .runs .ensures) _ _ _ _ _ _ _ (c .before .before .before .before .before .loop .inv) (c .before .before .before .before .loop-test .taken) in let left = c .before .if1 .left in 
+goes-on-requires-2 c κs =
+    let rows = c .before .before .before .before .before .loop .inv .rows in let inside = c .before .before .before .before .before .loop .inv .segments in let on = rows-on (segmentsIn (c .before .before .before .before .before .before .before .before .before .before .before .before .before .before .before .before .before .args .segments)) (c .before .before .before .before .before .before .before .before .before .before .before .before .before .before .before .before .before .pre .0) (c .before .before .before .before .before .before .before .before .before .before .before .before .before .before .before .before .before .args .bound) (c .before .before .before .before .before .before .before .before .before .before .before .before .before .before .before .before .before .pre .1 .0) _ (c .before .before .before .before .before .before .before .before .before .before .before .before .last-row .ensures ∙ ap (lastRow (c .before .before .before .before .before .before .before .before .before .before .before .before .before .before .before .before .before .args .bound)) (sym (count-is (c .before .before .before .before .before .before .before .before .before .before .before .before .before .before .before .before .before .args .segments)))) _ (c .before .before .before .before .before .before .before .before .before .before .before .before .before .runs .ensures) _ _ _ _ _ _ _ (c .before .before .before .before .before .loop .inv) (c .before .before .before .before .loop-test .taken) in let left = c .before .if1 .left in
     comparable (segmentsIn (c .before .before .before .before .before .before .before .before .before .before .before .before .before .before .before .before .before .args .segments)) (c .before .before .before .before .before .before .before .before .before .before .before .before .before .before .before .before .before .pre .0) _ _ _ (c .before .before .before .before .before .before .before .before .before .before .before .before .before .runs .ensures) (column-next (segmentsIn (c .before .before .before .before .before .before .before .before .before .before .before .before .before .before .before .before .before .args .segments)) (c .before .before .before .before .before .before .before .before .before .before .before .before .before .before .before .before .before .pre .0) (c .before .before .before .before .before .before .before .before .before .before .before .before .before .before .before .before .before .args .bound) (c .before .before .before .before .before .before .before .before .before .before .before .before .before .before .before .before .before .pre .1 .0) _ (c .before .before .before .before .before .before .before .before .before .before .before .before .last-row .ensures ∙ ap (lastRow (c .before .before .before .before .before .before .before .before .before .before .before .before .before .before .before .before .before .args .bound)) (sym (count-is (c .before .before .before .before .before .before .before .before .before .before .before .before .before .before .before .before .before .args .segments)))) _ (c .before .before .before .before .before .before .before .before .before .before .before .before .before .runs .ensures) _ _ _ _ _ _ _ (c .before .before .before .before .before .loop .inv) _ _ _ _ (c .before .before .before .loop2 .inv) (c .before .before .before .before .loop-test .taken) (omega (arith, count-is (c .before .before .before .before .before .before .before .before .before .before .before .before .before .before .before .before .before .args .segments))) _ (last-of (c .before .before .before .before .before .before .before .before .before .before .before .before .before .before .before .before .before .args .segments) (c .before .before .before .before .before .loop .k + 1) _ (c .before .before .before .loop2 .inv .errors-at (c .before .before .before .before .before .before .before .before .before .before .before .before .before .before .before .before .before .args .segments .count) (omega (arith, count-is (c .before .before .before .before .before .before .before .before .before .before .before .before .before .before .before .before .before .args .segments))) (omega arith)))) (omega arith) _ (c .before .before .before .before .before .before .before .before .before .before .before .before .before .before .before .before .before .pre .1 .0) (omega arith)
 
 loop-less : tie.Need-loop-less Inv-scan μ-scan Inv-loop2 μ-loop2 Inv-loop μ-loop
 loop-less c = let on = rows-on (segmentsIn (c .before .before .before .before .before .before .before .before .before .before .before .before .before .before .before .before .before .before .args .segments)) (c .before .before .before .before .before .before .before .before .before .before .before .before .before .before .before .before .before .before .pre .0) (c .before .before .before .before .before .before .before .before .before .before .before .before .before .before .before .before .before .before .args .bound) (c .before .before .before .before .before .before .before .before .before .before .before .before .before .before .before .before .before .before .pre .1 .0) _ (c .before .before .before .before .before .before .before .before .before .before .before .before .before .last-row .ensures ∙ ap (lastRow (c .before .before .before .before .before .before .before .before .before .before .before .before .before .before .before .before .before .before .args .bound)) (sym (count-is (c .before .before .before .before .before .before .before .before .before .before .before .before .before .before .before .before .before .before .args .segments)))) _ (c .before .before .before .before .before .before .before .before .before .before .before .before .before .before .runs .ensures) _ _ _ _ _ _ _ (c .before .before .before .before .before .before .loop .inv) (c .before .before .before .before .before .loop-test .taken) in omega arith
 
 loop-again : tie.Need-loop-again Inv-scan μ-scan Inv-loop2 μ-loop2 Inv-loop μ-loop
-loop-again c = 
-    let rows = c .before .before .before .before .before .before .loop .inv .rows in let inside = c .before .before .before .before .before .before .loop .inv .segments in let on = rows-on (segmentsIn (c .before .before .before .before .before .before .before .before .before .before .before .before .before .before .before .before .before .before .args .segments)) (c .before .before .before .before .before .before .before .before .before .before .before .before .before .before .before .before .before .before .pre .0) (c .before .before .before .before .before .before .before .before .before .before .before .before .before .before .before .before .before .before .args .bound) (c .before .before .before .before .before .before .before .before .before .before .before .before .before .before .before .before .before .before .pre .1 .0) _ (c .before .before .before .before .before .before .before .before .before .before .before .before .before .last-row .ensures ∙ ap (lastRow (c .before .before .before .before .before .before .before .before .before .before .before .before .before .before .before .before .before .before .args .bound)) (sym (count-is (c .before .before .before .before .before .before .before .before .before .before .before .before .before .before .before .before .before .before .args .segments)))) _ (c .before .before .before .before .before .before .before .before .before .before .before .before .before .before .runs .ensures) _ _ _ _ _ _ _ (c .before .before .before .before .before .before .loop .inv) (c .before .before .before .before .before .loop-test .taken) in let left = c .before .before .if1 .left in 
+loop-again c =
+    let rows = c .before .before .before .before .before .before .loop .inv .rows in let inside = c .before .before .before .before .before .before .loop .inv .segments in let on = rows-on (segmentsIn (c .before .before .before .before .before .before .before .before .before .before .before .before .before .before .before .before .before .before .args .segments)) (c .before .before .before .before .before .before .before .before .before .before .before .before .before .before .before .before .before .before .pre .0) (c .before .before .before .before .before .before .before .before .before .before .before .before .before .before .before .before .before .before .args .bound) (c .before .before .before .before .before .before .before .before .before .before .before .before .before .before .before .before .before .before .pre .1 .0) _ (c .before .before .before .before .before .before .before .before .before .before .before .before .before .last-row .ensures ∙ ap (lastRow (c .before .before .before .before .before .before .before .before .before .before .before .before .before .before .before .before .before .before .args .bound)) (sym (count-is (c .before .before .before .before .before .before .before .before .before .before .before .before .before .before .before .before .before .before .args .segments)))) _ (c .before .before .before .before .before .before .before .before .before .before .before .before .before .before .runs .ensures) _ _ _ _ _ _ _ (c .before .before .before .before .before .before .loop .inv) (c .before .before .before .before .before .loop-test .taken) in let left = c .before .before .if1 .left in
     rows-next (segmentsIn (c .before .before .before .before .before .before .before .before .before .before .before .before .before .before .before .before .before .before .args .segments)) (c .before .before .before .before .before .before .before .before .before .before .before .before .before .before .before .before .before .before .pre .0) (c .before .before .before .before .before .before .before .before .before .before .before .before .before .before .before .before .before .before .args .bound) (c .before .before .before .before .before .before .before .before .before .before .before .before .before .before .before .before .before .before .pre .1 .0) _ (c .before .before .before .before .before .before .before .before .before .before .before .before .before .last-row .ensures ∙ ap (lastRow (c .before .before .before .before .before .before .before .before .before .before .before .before .before .before .before .before .before .before .args .bound)) (sym (count-is (c .before .before .before .before .before .before .before .before .before .before .before .before .before .before .before .before .before .before .args .segments)))) _ (c .before .before .before .before .before .before .before .before .before .before .before .before .before .before .runs .ensures) _ _ _ _ _ _ _ (c .before .before .before .before .before .before .loop .inv) _ _ _ _ (c .before .before .before .before .loop2 .inv) (c .before .before .before .before .before .loop-test .taken) (omega (arith, count-is (c .before .before .before .before .before .before .before .before .before .before .before .before .before .before .before .before .before .before .args .segments))) _ (last-of (c .before .before .before .before .before .before .before .before .before .before .before .before .before .before .before .before .before .before .args .segments) (c .before .before .before .before .before .before .loop .k + 1) _ (c .before .before .before .before .loop2 .inv .errors-at (c .before .before .before .before .before .before .before .before .before .before .before .before .before .before .before .before .before .before .args .segments .count) (omega (arith, count-is (c .before .before .before .before .before .before .before .before .before .before .before .before .before .before .before .before .before .before .args .segments))) (omega arith))) _ (c .goes-on2 .ensures)
 
 returns : tie.Need-returns Inv-scan μ-scan Inv-loop2 μ-loop2 Inv-loop μ-loop

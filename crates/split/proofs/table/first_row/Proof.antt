@@ -1,24 +1,19 @@
 -- `table::first_row` meets its contract. The invariant: `block` has the totals of the first `i` segments, and the places to `i` hold their errors. Assumes nothing.
-use mathlib.Core.Path.{subst}
-use mathlib.Core.Option.{none}
-use native.Mathlib.Nat.{le-refl}
-use lib.ListN.{replicate, length-set, length-replicate, getD-replicate}
-use Rattle.model.specs.Blocks.{add, empty}
-use Rattle.blocks.specs.Room.{Room, Block}
-use Rattle.split.proofs.Errors.{none-in}
-use Rattle.theory.proofs.Blocks.{block-empty}
-use Prim.Native.Nat.{ℕ, zero, suc, _+_, _-_, _≤_, _<_, zero-le}
+use Prim.Native.Nat.{ℕ, _+_, _-_, _≤_, _<_, zero-le}
+use mathlib.Core.Path.{subst, _≡_, sym, ap, _∙_}
 use native.Mathlib.Omega.{arith}
+use lib.ListN.{length-set, length-replicate, getD-replicate, length, getD}
 use borrow.Author.Needs.{needs}
-use mathlib.Core.Path.{_≡_, refl, sym, ap, _∙_}
-use lib.ListN.{length, getD}
-use Rattle.model.specs.Blocks.{totals, segmentAt, block}
+use Rattle.model.specs.Blocks.{add, empty, totals, segmentAt, block}
 use Rattle.model.specs.Arrays.{segmentsIn}
 use Rattle.model.specs.Split.{least, errorOf, gapBelow}
+use Rattle.theory.proofs.Blocks.{block-empty}
+use Rattle.model.specs.Room.{Room, Block}
 use Rattle.blocks.specs.Meaning.{totalsIn}
 use Rattle.split.specs.Held.{noError, errorIn}
+use Rattle.split.proofs.Errors.{none-in}
 use Rattle.split.proofs.Places.{few-count, count-is}
-use Rattle.split.proofs.Range.{block-range, segment-range, error-of, error-range, made-range, totals-back, gaps-at, errors-set, least-first, least-nothing}
+use Rattle.split.proofs.Range.{block-range, error-of, error-range, made-range, totals-back, gaps-at, errors-set, least-first, least-nothing}
 use Rattle.split.proofs.table.first_row.Statement.{statement}
 use Rattle.split.proofs.table.first_row.Tie as tie
 
@@ -56,13 +51,13 @@ no-errors-requires c κs = search needs
 
 loop-holds : tie.Need-loop-holds Inv-loop μ-loop
 unfolding totals empty totalsIn
-loop-holds c = 
+loop-holds c =
     let outs = c .no-errors .ensures in (
-        few-count (c .before .before .before .before .args .segments) (c .before .before .before .before .pre),
-        zero-le,
-        ap length outs ∙ length-replicate 256 noError,
-        rw (block-empty (segmentAt (segmentsIn (c .before .before .before .before .args .segments))) 0),
-        λ x ge lt. rw outs (none-in _ (getD-replicate 256 x _ 0 (omega arith)) ∙ least-nothing _ _ x lt),
+      few-count (c .before .before .before .before .args .segments) (c .before .before .before .before .pre),
+      zero-le,
+      ap length outs ∙ length-replicate 256 noError,
+      rw (block-empty (segmentAt (segmentsIn (c .before .before .before .before .args .segments))) 0),
+      λ x ge lt. rw outs (none-in _ (getD-replicate 256 x _ 0 (omega arith)) ∙ least-nothing _ _ x lt),
     )
 
 mul-make : tie.Need-mul-make Inv-loop μ-loop
@@ -93,12 +88,12 @@ array-read-single : tie.Need-array-read-single Inv-loop μ-loop
 array-read-single c = omega arith
 
 error-requires : tie.Need-error-requires Inv-loop μ-loop
-error-requires c κs = 
+error-requires c κs =
     subst Block (sym (c .add .ensures ∙ grown (c .before)))
     (block-range (segmentsIn (c .before .before .before .before .before .before .before .before .before .args .segments)) (c .before .before .before .before .before .before .before .before .before .pre) 0 _ zero-le (omega (arith, count-is (c .before .before .before .before .before .before .before .before .before .args .segments))))
 
 single-requires : tie.Need-single-requires Inv-loop μ-loop
-single-requires c κs = 
+single-requires c κs =
     let most = error-range (segmentsIn (c .before .before .before .before .before .before .before .before .before .before .args .segments)) (c .before .before .before .before .before .before .before .before .before .before .pre) 0 (c .before .before .before .before .before .loop .i + 1) zero-le (omega (arith, count-is (c .before .before .before .before .before .before .before .before .before .before .args .segments))) in
     omega (arith, error-is c)
 
@@ -112,14 +107,14 @@ loop-less : tie.Need-loop-less Inv-loop μ-loop
 loop-less c = omega arith
 
 loop-again : tie.Need-loop-again Inv-loop μ-loop
-loop-again c = 
+loop-again c =
     let gap = gaps-at (segmentsIn (c .before .before .before .before .before .before .before .before .before .before .before .args .segments)) _ (c .before .before .before .before .before .before .loop .i + 1) (c .before .before .before .before .before .before .before .before .gaps .ensures) (omega (arith, count-is (c .before .before .before .before .before .before .before .before .before .before .before .args .segments))) in (
-        omega arith,
-        omega arith,
-        simp length-set (c .before .before .before .before .before .before .loop .inv .2),
-        c .before .before .add .ensures ∙ grown (c .before .before .before),
-        errors-set _ (c .before .before .before .before .before .before .loop .out) 0
-        (c .before .before .before .before .before .before .loop .i + 1) (c .single .result) (omega arith) (c .before .before .before .before .before .before .loop .inv .4) (least-first _ _ _ _ _ _ gap (error-is (c .before)) (c .single .ensures)),
+      omega arith,
+      omega arith,
+      simp length-set (c .before .before .before .before .before .before .loop .inv .2),
+      c .before .before .add .ensures ∙ grown (c .before .before .before),
+      errors-set _ (c .before .before .before .before .before .before .loop .out) 0
+          (c .before .before .before .before .before .before .loop .i + 1) (c .single .result) (omega arith) (c .before .before .before .before .before .before .loop .inv .4) (least-first _ _ _ _ _ _ gap (error-is (c .before)) (c .single .ensures)),
     )
 
 returns : tie.Need-returns Inv-loop μ-loop

@@ -1,9 +1,9 @@
 -- `table::met` meets its contract. Assumes nothing.
-use Rattle.blocks.proofs.Bounds.{mul-le}
-use borrow.Author.Tests.{lt-leb, le-leb}
 use native.Mathlib.Omega.{arith}
-use Rattle.split.specs.Held.{meetsIn, Known}
+use borrow.Author.Tests.{lt-leb, le-leb}
 use borrow.Author.Needs.{needs}
+use Rattle.theory.proofs.Bounds.{mul-le}
+use Rattle.split.specs.Held.{meetsIn, Known}
 use Rattle.split.proofs.table.met.Statement.{statement}
 use Rattle.split.proofs.table.met.Tie as tie
 
@@ -37,7 +37,7 @@ element-copy-out-result-2 c = search needs
 
 mul-result-4 : tie.Need-mul-result-4
 unfolding Known
-mul-result-4 c = 
+mul-result-4 c =
     let small = c .before .before .before .before .before .before .before .pre .there (c .before .before .before .if1 .left) in
     let share = rw (c .before .before .before .before .before .bound .given .1) at (c .before .before .before .before .before .before .before .pre .known) in
     rw (c .before .wide16 .ensures .0) (omega (arith, mul-le share small))

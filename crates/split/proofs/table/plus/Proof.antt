@@ -1,6 +1,6 @@
 -- `table::plus` meets its contract. Assumes nothing.
-use native.Mathlib.Omega.{arith}
 use mathlib.Core.Path.{refl}
+use native.Mathlib.Omega.{arith}
 use Rattle.model.specs.Split.{plus}
 use Rattle.split.proofs.Errors.{none-in, some-in}
 use Rattle.split.proofs.table.plus.Statement.{statement}

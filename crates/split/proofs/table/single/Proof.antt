@@ -1,6 +1,6 @@
 -- `table::single` meets its contract. Assumes nothing.
-use native.Mathlib.Omega.{arith}
 use mathlib.Core.Path.{refl}
+use native.Mathlib.Omega.{arith}
 use borrow.Author.Tests.{eq-eqb, ne-eqb}
 use Rattle.split.proofs.Errors.{none-in, some-in}
 use Rattle.split.proofs.table.single.Statement.{statement}

@@ -1,17 +1,16 @@
--- The ranges in which totals are held, and the segments whose totals stay in them.
+-- The ranges in which totals are held, and the segments whose totals stay in them: what the functions that work on segments
+-- ask of their callers. Every error is then far below 2^64.
 use Prim.Native.Nat.{ℕ, _+_, _*_, _≤_}
 use mathlib.Core.List.{List, List·Memᴰ}
 use lib.ListN.{length}
 use Rattle.model.specs.Common.{sumOf}
 use Rattle.model.specs.Spans.{Span, spanLength}
 use Rattle.model.specs.Blocks.{Totals}
+use Rattle.model.specs.Questions.{mostValue}
 
--- the frames of all groups, and the greatest value of a frame
+-- the frames of all groups: 8 times 65,536
 abbrev pub mostFrames : ℕ
 mostFrames = 524288
-
-abbrev pub mostValue : ℕ
-mostValue = 128000
 
 -- the greatest error: that of every frame at the greatest value
 abbrev pub mostError : ℕ
