@@ -1,9 +1,8 @@
 -- The segments that are found fit into the list, and with them in its first places it is what the segment call leaves.
 -- Assumes nothing.
 use Prim.Native.Nat.{ℕ, _≤_}
-use mathlib.Core.Bool.{true, false}
 use mathlib.Core.List.{List, [], _∷_, _++_, map}
-use mathlib.Core.Path.{_≡_, refl, sym, ap, _∙_}
+use mathlib.Core.Path.{_≡_, refl, ap, _∙_}
 use native.Mathlib.Omega.{arith}
 use borrow.Author.Tests.{leb-true}
 use lib.ListN.{length, drop}
@@ -11,7 +10,6 @@ use Rattle.model.specs.Spans.{Span}
 use Rattle.model.specs.Questions.{Question, Outcome, refused, accepted, outcome, lent, ask, askRoom, mostSegments, segmentsQuestions}
 use Rattle.model.specs.Calls.{segmentOf, logSegments, filledList}
 use Rattle.model.specs.Arrays.{segmentsIn, segmentArrays}
-use Rattle.model.specs.Demands.{AllPass}
 use Rattle.model.specs.declared.Segment.{Segment}
 use Rattle.model.specs.declared.Segments.{Segments}
 use Rattle.theory.proofs.Tests.{cases}

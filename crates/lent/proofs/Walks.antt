@@ -1,46 +1,20 @@
 -- A walker's answers: of a slot that is read, the reader's rows in order and then the end for ever; of any other slot, the
 -- reader's refusal at every step. Assumes nothing.
-use Prim.Native.Nat.{ℕ, zero, suc, _+_, _≤_, _<_}
-use mathlib.Core.Bool.{true, false}
+use Prim.Native.Nat.{ℕ, zero, suc, _≤_, _<_}
 use mathlib.Core.List.{List, [], _∷_}
-use mathlib.Core.Option.{Option, none, some}
-use mathlib.Core.Path.{_≡_, refl, sym, ap, _∙_}
+use mathlib.Core.Option.{none, some}
+use mathlib.Core.Path.{_≡_, refl, ap, _∙_}
 use native.Mathlib.Omega.{arith}
 use borrow.Author.Tests.{ltb-true, ltb-false}
 use lib.Dec.{ltb}
 use lib.ListN.{length, getD}
 use Rattle.model.specs.Spans.{nowhere}
-use Rattle.model.specs.Questions.{Question, Outcome, refused, accepted, outcome, slotQuestions}
+use Rattle.model.specs.Questions.{Question, refused, accepted, outcome, slotQuestions}
 use Rattle.model.specs.Calls.{Header, readOutcome, readRows, stepOutcome, stepNext}
 use Rattle.theory.proofs.Tests.{cases}
-use Rattle.theory.proofs.Refusals.{accepted≢refused}
+use Rattle.theory.proofs.Refusals.{accepted≢refused, refused-lent}
 use Rattle.slot.proofs.Walk.{walk-row, walk-end}
 use Rattle.lent.specs.Walk.{numberAfter}
-
-module _ (slot : List ℕ) (header : Header) (read : readOutcome slot ≡ accepted header) where
-  -- up to the row count each step goes on to the next row
-  counts : (i : ℕ) → i ≤ length (readRows slot) → numberAfter slot i ≡ i
-  unfolding numberAfter
-  counts zero le = refl
-  counts (suc i) le = ap (stepNext slot) (counts i (omega arith)) ∙ walk-row slot header read i (omega arith) .1
-
-  -- and as many steps as there are rows, or more, lead behind the last row
-  behind : (i : ℕ) → length (readRows slot) ≤ i → length (readRows slot) ≤ numberAfter slot i
-  unfolding numberAfter
-  behind zero le = le
-  behind (suc i) le =
-      cases (ltb i (length (readRows slot)))
-      (λ t. let lt = ltb-true i (length (readRows slot)) t in rw (counts i (omega (arith, lt)), walk-row slot header read i lt .1) le)
-      (λ t. let past = behind i (ltb-false _ _ t) in rw (walk-end slot header read (numberAfter slot i) past .1) past)
-
-  -- the answer after i steps is the reader's row i
-  pub walker-row : (i : ℕ) → i < length (readRows slot)
-      → stepOutcome slot (numberAfter slot i) ≡ accepted (some (getD (readRows slot) i nowhere))
-  walker-row i lt = ap (stepOutcome slot) (counts i (omega arith)) ∙ walk-row slot header read i lt .0
-
-  -- and behind the last row the end
-  pub walker-end : (i : ℕ) → length (readRows slot) ≤ i → stepOutcome slot (numberAfter slot i) ≡ accepted none
-  walker-end i le = walk-end slot header read (numberAfter slot i) (behind i le) .0
 
 -- a refusal is the same whatever would be given
 refused-same : {A B : Type 0} (qs : List Question) (a : A) (b : B) (n i : ℕ) → outcome qs a ≡ refused n i → outcome qs b ≡ refused n i
@@ -49,8 +23,39 @@ refused-same [] a b n i e = absurd (accepted≢refused e)
 refused-same (q ∷ qs) a b n i e =
     cases (q .passed) (λ p. rw p (refused-same qs a b n i (rw p at e))) (λ p. rw p (cc))
 
--- of a slot that is refused, every answer is the refusal
-pub walker-refused : (slot : List ℕ) (n i : ℕ) → readOutcome slot ≡ refused n i
-    → (steps : ℕ) → stepOutcome slot (numberAfter slot steps) ≡ refused n i
-unfolding readOutcome stepOutcome
-walker-refused slot n i e steps = refused-same (slotQuestions slot) _ _ n i e
+module _ (slot : List ℕ) (n i : ℕ) (e : readOutcome slot ≡ refused n i) where
+  -- over a slot that is refused a walker does not move
+  pub walker-stays : (steps : ℕ) → numberAfter slot steps ≡ 0
+  unfolding numberAfter readOutcome stepNext
+  walker-stays zero = refl
+  walker-stays (suc steps) = refused-lent (slotQuestions slot) _ n i _ _ e ∙ walker-stays steps
+
+  -- and every answer is the refusal
+  pub walker-refused : (steps : ℕ) → stepOutcome slot (numberAfter slot steps) ≡ refused n i
+  unfolding readOutcome stepOutcome
+  walker-refused steps = refused-same (slotQuestions slot) _ _ n i e
+
+module _ (slot : List ℕ) (header : Header) (read : readOutcome slot ≡ accepted header) where
+  -- up to the row count each step goes on to the next row
+  counts : (i : ℕ) → i ≤ length (readRows slot) → numberAfter slot i ≡ i
+  unfolding numberAfter
+  counts zero le = refl
+  counts (suc i) le = ap (stepNext slot) (counts i (omega arith)) ∙ walk-row slot header read i (omega arith) .1
+
+  -- and behind the last row the number stays
+  ended : (i : ℕ) → length (readRows slot) ≤ i → numberAfter slot i ≡ length (readRows slot)
+  unfolding numberAfter
+  ended zero le = omega arith
+  ended (suc i) le =
+      cases (ltb i (length (readRows slot)))
+      (λ t. let lt = ltb-true i (length (readRows slot)) t in counts (suc i) (omega arith) ∙ omega (arith, lt, le))
+      (λ t. ap (stepNext slot) (ended i (ltb-false _ _ t)) ∙ walk-end slot header read _ (omega arith) .1)
+
+  -- the answer after i steps is the reader's row i
+  pub walker-row : (i : ℕ) → i < length (readRows slot)
+      → stepOutcome slot (numberAfter slot i) ≡ accepted (some (getD (readRows slot) i nowhere))
+  walker-row i lt = ap (stepOutcome slot) (counts i (omega arith)) ∙ walk-row slot header read i lt .0
+
+  -- and behind the last row the end, again and again
+  pub walker-end : (i : ℕ) → length (readRows slot) ≤ i → stepOutcome slot (numberAfter slot i) ≡ accepted none
+  walker-end i le = ap (stepOutcome slot) (ended i le) ∙ walk-end slot header read _ (omega arith) .0

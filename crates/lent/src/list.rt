@@ -2,7 +2,6 @@
 use model::Segment;
 use model::Segments;
 use model::SegmentsAnswer;
-use segments::Found;
 ghost use mathlib.Core.Path.{_≡_};
 ghost use mathlib.Core.List.{_++_, map};
 ghost use Prim.Native.Nat.{_<_, _≤_};

@@ -1,7 +1,6 @@
 // The walker: a struct that holds a slot and the number of the row that comes next. It hands out row after row and then the
 // end, again and again, and asks the slot's questions at every step.
 use model::Step;
-use model::Walked;
 ghost use mathlib.Core.Path.{_≡_};
 ghost use Rattle.model.specs.Calls.{stepCase, stepOutcome, stepNext};
 ghost use Rattle.lent.specs.Walk.{numberAfter};

@@ -1,0 +1,400 @@
+//! The same algorithm in plain safe Rust, written for speed: the measure for the proved library.
+//!
+//! Segments are found from event to event, the split table is filled with incremental block
+//! totals and left early, and the same questions are asked. The table has the paper's 64 times
+//! 256 entries, all 'no cut' at first.
+
+/// A query's answer, with question 0 if it is accepted.
+#[derive(Clone, Copy, Debug, Default, PartialEq, Eq)]
+pub struct QueryAnswer {
+    pub question: u8,
+    pub index: usize,
+    pub rows: usize,
+    pub error: u64,
+    pub weighed: u64,
+}
+
+/// The reader's answer.
+#[derive(Clone, Copy, Debug, Default, PartialEq, Eq)]
+pub struct ReadAnswer {
+    pub question: u8,
+    pub index: usize,
+    pub kind: u8,
+    pub rows: usize,
+    pub error: u64,
+}
+
+/// A refusal: question and index.
+type No = (u8, usize);
+
+#[derive(Clone, Copy, Default)]
+pub struct Segment {
+    pub group: u8,
+    pub first: u16,
+    pub last: u16,
+    pub value: u32,
+}
+
+/// Length, sum of length × value and sum of length × value² of a block.
+#[derive(Clone, Copy, Default)]
+struct Totals {
+    length: u64,
+    sum: u64,
+    squares: u64,
+}
+
+impl Totals {
+    fn of(segment: &Segment) -> Self {
+        let length = u64::from(segment.last) - u64::from(segment.first) + 1;
+        let value = u64::from(segment.value);
+        Totals {
+            length,
+            sum: length * value,
+            squares: length * value * value,
+        }
+    }
+
+    fn add(&mut self, other: &Totals) {
+        self.length += other.length;
+        self.sum += other.sum;
+        self.squares += other.squares;
+    }
+
+    /// The whole number nearest to the mean, the lower one at a half.
+    fn row_value(&self) -> u64 {
+        (2 * self.sum + self.length - 1) / (2 * self.length)
+    }
+
+    fn error(&self) -> u64 {
+        let r = self.row_value();
+        self.squares + r * r * self.length - 2 * r * self.sum
+    }
+}
+
+fn two(bytes: &[u8], at: usize) -> u16 {
+    u16::from_le_bytes([bytes[at], bytes[at + 1]])
+}
+
+/// Questions 4 to 9.
+fn ask_log(log: &[u8]) -> Result<(), No> {
+    if !log.len().is_multiple_of(9) {
+        return Err((4, 0));
+    }
+    if log.len() / 9 > 128 {
+        return Err((5, 0));
+    }
+    for (index, record) in log.chunks_exact(9).enumerate() {
+        let question = if record[..2] != [0x4C, 0x44] {
+            6
+        } else if record[2] > 7 {
+            7
+        } else if two(record, 3) > two(record, 5) {
+            8
+        } else if two(record, 7) > 1000 {
+            9
+        } else {
+            continue;
+        };
+        return Err((question, index));
+    }
+    Ok(())
+}
+
+/// The records of one group, as columns; `end` is the frame after the last.
+struct Columns {
+    first: [i32; 128],
+    end: [i32; 128],
+    load: [i32; 128],
+}
+
+/// Finds the segments of an accepted log and gives their count.
+fn find_segments(log: &[u8], kind: u8, list: &mut [Segment; 255]) -> usize {
+    let mut columns = Columns {
+        first: [0; 128],
+        end: [0; 128],
+        load: [0; 128],
+    };
+    let mut n = 0;
+    for group in 0..8u8 {
+        let mut count = 0;
+        for record in log.chunks_exact(9).filter(|record| record[2] == group) {
+            columns.first[count] = i32::from(two(record, 3));
+            columns.end[count] = i32::from(two(record, 5)) + 1;
+            columns.load[count] = i32::from(two(record, 7));
+            count += 1;
+        }
+        let first = &columns.first[..count];
+        let end = &columns.end[..count];
+        let load = &columns.load[..count];
+        let start = n;
+        let mut a = first.iter().copied().min().unwrap_or(65_536);
+        while a < 65_536 {
+            // The next event after a, and the tally of the records that contain a.
+            let mut next = 65_536;
+            let (mut records, mut sum, mut least, mut greatest) = (0, 0, 1000, 0);
+            for ((&first, &end), &load) in first.iter().zip(end).zip(load) {
+                let holds = first <= a && a < end;
+                next = next.min(if first > a { first } else { 65_536 });
+                next = next.min(if end > a { end } else { 65_536 });
+                records += i32::from(holds);
+                sum += if holds { load } else { 0 };
+                least = least.min(if holds { load } else { 1000 });
+                greatest = greatest.max(if holds { load } else { 0 });
+            }
+            if records > 0 {
+                let value = match kind {
+                    0 => sum,
+                    1 => records,
+                    2 => least,
+                    _ => greatest,
+                } as u32;
+                let last = (next - 1) as u16;
+                match list[start..n].last_mut() {
+                    Some(open) if i32::from(open.last) + 1 == a && open.value == value => {
+                        open.last = last;
+                    }
+                    _ => {
+                        list[n] = Segment {
+                            group,
+                            first: a as u16,
+                            last,
+                            value,
+                        };
+                        n += 1;
+                    }
+                }
+            }
+            a = next;
+        }
+    }
+    n
+}
+
+/// The segment call: question, index and count.
+pub fn segments(log: &[u8], kind: u8, list: &mut [Segment]) -> (u8, usize, usize) {
+    let Some(places) = list.first_chunk_mut::<255>() else {
+        return (1, 0, 0);
+    };
+    if kind > 3 {
+        return (2, 0, 0);
+    }
+    if let Err((question, index)) = ask_log(log) {
+        return (question, index, 0);
+    }
+    (0, 0, find_segments(log, kind, places))
+}
+
+/// Above every error; the sum of two does not overflow.
+const NONE: u64 = 1 << 62;
+
+/// The query call.
+pub fn query(kind: u8, rule: u8, bound: u16, log: &[u8], slot: &mut [u8]) -> QueryAnswer {
+    match try_query(kind, rule, bound, log, slot) {
+        Ok(answer) => answer,
+        Err((question, index)) => QueryAnswer {
+            question,
+            index,
+            ..QueryAnswer::default()
+        },
+    }
+}
+
+fn try_query(
+    kind: u8,
+    rule: u8,
+    bound: u16,
+    log: &[u8],
+    slot: &mut [u8],
+) -> Result<QueryAnswer, No> {
+    let slot = slot.first_chunk_mut::<768>().ok_or((1, 0))?;
+    if kind > 3 {
+        return Err((2, 0));
+    }
+    let limited = rule == 0x52;
+    if !((limited && bound <= 64) || (rule == 0x45 && bound <= 1000)) {
+        return Err((3, 0));
+    }
+    ask_log(log)?;
+    let mut list = [Segment::default(); 255];
+    let n = find_segments(log, kind, &mut list);
+    let segments = &list[..n];
+
+    let totals: Vec<Totals> = segments.iter().map(Totals::of).collect();
+    // The last gap below i, at place i; and the count of runs.
+    let mut gap = [0u8; 256];
+    let mut m = usize::from(n > 0);
+    for (j, pair) in segments.windows(2).enumerate() {
+        let adjacent = pair[0].group == pair[1].group
+            && u32::from(pair[0].last) + 1 == u32::from(pair[1].first);
+        gap[j + 2] = if adjacent { gap[j + 1] } else { (j + 1) as u8 };
+        m += usize::from(!adjacent);
+    }
+    let top = n.min(if limited { usize::from(bound) } else { 64 });
+    if m > top {
+        return Err((10, 0));
+    }
+
+    let mut table = [[0u8; 256]; 64];
+    // E(k - 1, i) and E(k, i), at place i; the two change places from row to row.
+    let mut before = &mut [NONE; 256];
+    let mut now = &mut [NONE; 256];
+    let mut errors = [NONE; 65];
+    let mut weighed = 0;
+    let mut tried = 0;
+    let mut met = n == 0;
+    if n > 0 {
+        let mut block = Totals::default();
+        for (i, total) in totals.iter().enumerate() {
+            if gap[i + 1] > 0 {
+                break;
+            }
+            block.add(total);
+            before[i + 1] = block.error();
+        }
+        tried = 1;
+        errors[1] = before[n];
+        met = m == 1 && errors[1] * 1000 <= u64::from(bound) * errors[1];
+    }
+    for k in 2..=top {
+        if met && !limited {
+            break;
+        }
+        now[k - 1] = NONE;
+        let cuts = &mut table[k - 1];
+        for i in k..=n {
+            let low = usize::from(gap[i]).max(k - 1);
+            let mut block = Totals::default();
+            let (mut best, mut cut) = (NONE, 0);
+            let mut left = i - low;
+            for (total, front) in totals[low..i].iter().zip(&before[low..i]).rev() {
+                left -= 1;
+                block.add(total);
+                let error = block.error();
+                if front + error < best {
+                    best = front + error;
+                    cut = low + left;
+                }
+                if error > best {
+                    break;
+                }
+            }
+            weighed += (i - low - left) as u64;
+            now[i] = best;
+            cuts[i] = cut as u8;
+        }
+        std::mem::swap(&mut before, &mut now);
+        tried = k;
+        errors[k] = before[n];
+        met = k >= m && errors[k] * 1000 <= u64::from(bound) * errors[m];
+    }
+    if !limited && !met {
+        return Err((10, 0));
+    }
+    // With a limit, the fewest rows that have the least error.
+    let rows = if limited {
+        let least = errors[tried];
+        (m..tried).find(|k| errors[*k] == least).unwrap_or(tried)
+    } else {
+        tried
+    };
+    let error = if rows == 0 { 0 } else { errors[rows] };
+
+    slot.fill(0);
+    slot[..4].copy_from_slice(&[0x50, 0x48, kind, rows as u8]);
+    slot[4..12].copy_from_slice(&error.to_le_bytes());
+    let mut end = n;
+    for k in (1..=rows).rev() {
+        let start = usize::from(table[k - 1][end]);
+        let mut block = Totals::default();
+        for total in &totals[start..end] {
+            block.add(total);
+        }
+        let row = &mut slot[12 + 11 * (k - 1)..][..11];
+        row[..3].copy_from_slice(&[0x50, 0x52, segments[start].group]);
+        row[3..5].copy_from_slice(&segments[start].first.to_le_bytes());
+        row[5..7].copy_from_slice(&segments[end - 1].last.to_le_bytes());
+        row[7..].copy_from_slice(&(block.row_value() as u32).to_le_bytes());
+        end = start;
+    }
+    Ok(QueryAnswer {
+        question: 0,
+        index: 0,
+        rows,
+        error,
+        weighed,
+    })
+}
+
+/// Questions 1 and 11 to 17; gives the rows' bytes.
+fn ask_slot(slot: &[u8]) -> Result<(&[u8; 768], &[u8]), No> {
+    let slot = slot.first_chunk::<768>().ok_or((1, 0))?;
+    if slot[..2] != [0x50, 0x48] {
+        return Err((11, 0));
+    }
+    if slot[2] > 3 {
+        return Err((12, 0));
+    }
+    if slot[3] > 64 {
+        return Err((13, 0));
+    }
+    let (rows, rest) = slot[12..].split_at(11 * usize::from(slot[3]));
+    // The least first frame that the next row may have, with its group above it.
+    let mut least = 0;
+    for (index, row) in rows.chunks_exact(11).enumerate() {
+        let (first, last) = (two(row, 3), two(row, 5));
+        let value = u32::from_le_bytes([row[7], row[8], row[9], row[10]]);
+        if row[..2] != [0x50, 0x52] {
+            return Err((14, index));
+        }
+        if row[2] > 7 || first > last || value > 128_000 {
+            return Err((15, index));
+        }
+        let place = u32::from(row[2]) << 17;
+        if place + u32::from(first) < least {
+            return Err((16, index));
+        }
+        least = place + u32::from(last) + 1;
+    }
+    if rest.iter().fold(0, |all, byte| all | byte) != 0 {
+        return Err((17, 0));
+    }
+    Ok((slot, rows))
+}
+
+/// The reader.
+pub fn read(slot: &[u8]) -> ReadAnswer {
+    match ask_slot(slot) {
+        Ok((slot, _)) => {
+            let mut error = [0; 8];
+            error.copy_from_slice(&slot[4..12]);
+            ReadAnswer {
+                question: 0,
+                index: 0,
+                kind: slot[2],
+                rows: usize::from(slot[3]),
+                error: u64::from_le_bytes(error),
+            }
+        }
+        Err((question, index)) => ReadAnswer {
+            question,
+            index,
+            ..ReadAnswer::default()
+        },
+    }
+}
+
+/// Lookup: question, index, and the value if the frame is covered.
+pub fn lookup(slot: &[u8], group: u8, frame: u16) -> (u8, usize, Option<u32>) {
+    let rows = match ask_slot(slot) {
+        Ok((_, rows)) => rows,
+        Err((question, index)) => return (question, index, None),
+    };
+    if group > 7 {
+        return (7, 0, None);
+    }
+    let value = rows
+        .chunks_exact(11)
+        .find(|row| row[2] == group && two(row, 3) <= frame && frame <= two(row, 5))
+        .map(|row| u32::from_le_bytes([row[7], row[8], row[9], row[10]]));
+    (0, 0, value)
+}

@@ -1,0 +1,356 @@
+//! One case: all calls of the proved library against the independent implementation.
+
+use crate::inputs;
+use crate::random::Random;
+use pacer::c;
+use reference::{No, Stretch};
+use std::fmt::Debug;
+
+/// How often each question was the first 'no', and 0 for accepted, over all calls.
+#[derive(Clone, Default)]
+pub struct Seen {
+    pub query: [u64; 18],
+    pub segments: [u64; 18],
+    pub slot: [u64; 18],
+    pub record: [u64; 18],
+    /// Segments, rows and cuts of the largest case.
+    pub most_segments: usize,
+    pub most_rows: usize,
+    pub most_weighed: u64,
+}
+
+impl Seen {
+    pub fn join(&mut self, other: &Seen) {
+        let pairs = [
+            (&mut self.query, &other.query),
+            (&mut self.segments, &other.segments),
+            (&mut self.slot, &other.slot),
+            (&mut self.record, &other.record),
+        ];
+        for (one, two) in pairs {
+            for (a, b) in one.iter_mut().zip(two) {
+                *a += b;
+            }
+        }
+        self.most_segments = self.most_segments.max(other.most_segments);
+        self.most_rows = self.most_rows.max(other.most_rows);
+        self.most_weighed = self.most_weighed.max(other.most_weighed);
+    }
+}
+
+/// Tells where two things differ.
+pub fn same<T: PartialEq + Debug>(what: &str, found: T, expected: T) -> Result<(), String> {
+    if found == expected {
+        Ok(())
+    } else {
+        Err(format!(
+            "{what}: the library gives {found:?}, expected {expected:?}"
+        ))
+    }
+}
+
+/// Tells the first place where two lists differ.
+fn same_places<T: PartialEq + Debug>(
+    what: &str,
+    found: &[T],
+    expected: &[T],
+) -> Result<(), String> {
+    same(&format!("{what}, length"), found.len(), expected.len())?;
+    for (place, (one, two)) in found.iter().zip(expected).enumerate() {
+        if one != two {
+            return Err(format!(
+                "{what}, place {place}: the library gives {one:?}, expected {two:?}"
+            ));
+        }
+    }
+    Ok(())
+}
+
+fn segment_of(stretch: &Stretch) -> c::Segment {
+    c::Segment {
+        group: stretch.group,
+        first: stretch.first,
+        last: stretch.last,
+        value: stretch.value,
+    }
+}
+
+/// The question and index of an outcome, 0 and 0 if it is accepted.
+fn number<T>(outcome: &Result<T, No>) -> (u8, usize) {
+    match outcome {
+        Ok(_) => (0, 0),
+        Err(no) => (no.question, no.index),
+    }
+}
+
+/// Runs one case.
+pub fn run(random: &mut Random, seen: &mut Seen) -> Result<(), String> {
+    let records = inputs::records(random);
+    let mut log = inputs::log_of(&records);
+    inputs::damage_log(random, &mut log);
+    let kind = inputs::kind(random);
+
+    let expected = segments(random, &log, kind, seen)?;
+    let (rule, bound) = inputs::bound(random, &expected);
+    let slot = query(random, kind, rule, bound, &log, seen)
+        .map_err(|why| format!("kind {kind}, rule {rule:#x}, bound {bound}: {why}"))?;
+
+    // The slot as the query left it; then that slot, or one that no query wrote, with some bytes
+    // damaged.
+    slot_calls(random, &slot, seen)?;
+    let mut other = if reference::read(&slot).is_ok() && random.percent(50) {
+        slot
+    } else {
+        let mut fresh = inputs::slot(random);
+        let length = inputs::length(random, 768);
+        let rest = random.bytes(length.saturating_sub(768));
+        fresh.extend(rest);
+        fresh.truncate(length);
+        fresh
+    };
+    inputs::damage_slot(random, &mut other);
+    slot_calls(random, &other, seen)?;
+    write_record(random, seen)
+}
+
+/// The segment call. Gives the segments that a query will find, whatever list was lent.
+fn segments(
+    random: &mut Random,
+    log: &[u8],
+    kind: u8,
+    seen: &mut Seen,
+) -> Result<Vec<Stretch>, String> {
+    let places = inputs::length(random, 255);
+    let before: Vec<c::Segment> = (0..places)
+        .map(|_| {
+            let noise = random.next();
+            c::Segment {
+                group: noise as u8,
+                first: (noise >> 8) as u16,
+                last: (noise >> 24) as u16,
+                value: (noise >> 32) as u32,
+            }
+        })
+        .collect();
+    let mut list = before.clone();
+    let answer = c::segments(log, kind, &mut list);
+    let outcome = reference::segments(log, kind, 255);
+    let expected = if places < 255 {
+        Err(No {
+            question: 1,
+            index: 0,
+        })
+    } else {
+        outcome.clone()
+    };
+    let (question, index) = number(&expected);
+    let found = expected.unwrap_or_default();
+    same(
+        "segments",
+        answer,
+        c::SegmentsAnswer {
+            question,
+            index,
+            count: found.len(),
+        },
+    )?;
+    let mut after = before;
+    for (place, segment) in after.iter_mut().zip(&found) {
+        *place = segment_of(segment);
+    }
+    same_places("list of segments", &list, &after)?;
+    seen.segments[usize::from(question)] += 1;
+
+    let found = outcome.unwrap_or_default();
+    if kind == 0 && !found.is_empty() {
+        let by_segment: u64 = found.iter().map(|s| s.length() * u64::from(s.value)).sum();
+        let by_record: u64 = reference::records(log)
+            .iter()
+            .map(|r| (u64::from(r.last) - u64::from(r.first) + 1) * u64::from(r.load))
+            .sum();
+        same("length times load", by_segment, by_record)?;
+    }
+    seen.most_segments = seen.most_segments.max(found.len());
+    Ok(found)
+}
+
+/// The query call. Gives the slot that was lent, as the call left it.
+fn query(
+    random: &mut Random,
+    kind: u8,
+    rule: u8,
+    bound: u16,
+    log: &[u8],
+    seen: &mut Seen,
+) -> Result<Vec<u8>, String> {
+    let length = inputs::length(random, 768);
+    let before = random.bytes(length);
+    let mut slot = before.clone();
+    let answer = c::query(kind, rule, bound, log, &mut slot);
+    let expected = reference::query(kind, rule, bound, log, slot.len());
+    let (question, index) = number(&expected);
+    seen.query[usize::from(question)] += 1;
+    match expected {
+        Ok(reduction) => {
+            same(
+                "query",
+                answer,
+                c::QueryAnswer {
+                    question: 0,
+                    index: 0,
+                    rows: reduction.rows.len(),
+                    error: reduction.error,
+                    weighed: reduction.weighed,
+                },
+            )?;
+            let mut after = reference::layout(kind, reduction.error, &reduction.rows);
+            after.extend(&before[768..]);
+            same_places("slot", &slot, &after)?;
+
+            // The rows read back, and the paper's bound of the cuts weighed.
+            let contents = reference::read(&slot).map_err(|no| format!("slot refused: {no:?}"))?;
+            same("rows read back", contents.rows.len(), reduction.rows.len())?;
+            let n = reference::segments(log, kind, 255).map_or(0, |segments| segments.len() as u64);
+            let most = (reduction.tried as u64).saturating_sub(1) * n * n.saturating_sub(1) / 2;
+            same("cuts within the bound", answer.weighed <= most, true)?;
+            seen.most_rows = seen.most_rows.max(reduction.rows.len());
+            seen.most_weighed = seen.most_weighed.max(reduction.weighed);
+        }
+        Err(_) => {
+            same(
+                "query",
+                answer,
+                c::QueryAnswer {
+                    question,
+                    index,
+                    rows: 0,
+                    error: 0,
+                    weighed: 0,
+                },
+            )?;
+            same_places("slot after a refusal", &slot, &before)?;
+        }
+    }
+    Ok(slot)
+}
+
+/// The calls on a slot: read, row_at for every number, and some lookups.
+fn slot_calls(random: &mut Random, slot: &[u8], seen: &mut Seen) -> Result<(), String> {
+    let expected = reference::read(slot);
+    let (question, index) = number(&expected);
+    seen.slot[usize::from(question)] += 1;
+    let (kind, error, rows) = match &expected {
+        Ok(contents) => (contents.kind, contents.error, contents.rows.clone()),
+        Err(_) => (0, 0, Vec::new()),
+    };
+    same(
+        "read",
+        c::read(slot),
+        c::ReadAnswer {
+            question,
+            index,
+            kind,
+            rows: rows.len(),
+            error,
+        },
+    )?;
+    if expected.is_ok() {
+        // An accepted slot is byte for byte its layout.
+        same_places(
+            "layout",
+            &slot[..768],
+            &reference::layout(kind, error, &rows),
+        )?;
+        // The safe walk gives the same rows.
+        let walked: Vec<Stretch> = pacer::read(slot)
+            .map_err(|refusal| refusal.to_string())?
+            .rows()
+            .map(|row| Stretch {
+                group: row.group,
+                first: row.first,
+                last: row.last,
+                value: row.value,
+            })
+            .collect();
+        same_places("rows", &walked, &rows)?;
+    }
+    let far = [64, 65, 1 << 16, usize::MAX, random.next() as usize];
+    for number in (0..rows.len() + 2).chain(far) {
+        let row = rows.get(number);
+        let blank = Stretch {
+            group: 0,
+            first: 0,
+            last: 0,
+            value: 0,
+        };
+        let fields = row.unwrap_or(&blank);
+        same(
+            "row_at",
+            c::row_at(slot, number),
+            c::StepAnswer {
+                question,
+                index,
+                found: u8::from(row.is_some()),
+                group: fields.group,
+                first: fields.first,
+                last: fields.last,
+                value: fields.value,
+                next: if row.is_some() { number + 1 } else { number },
+            },
+        )?;
+    }
+    for _ in 0..6 {
+        // Near the ends of a row, or anywhere.
+        let (group, frame) = if !rows.is_empty() && random.percent(75) {
+            let row = random.pick(&rows);
+            let frame = match random.range(0, 4) {
+                0 => row.first,
+                1 => row.last,
+                2 => row.first.wrapping_sub(1),
+                3 => row.last.wrapping_add(1),
+                _ => random.range(u64::from(row.first), u64::from(row.last)) as u16,
+            };
+            (row.group, frame)
+        } else {
+            (random.range(0, 9) as u8, random.range(0, 65_535) as u16)
+        };
+        let expected = reference::lookup(slot, group, frame);
+        let (question, index) = number(&expected);
+        seen.slot[usize::from(question)] += u64::from(question == 7);
+        let value = expected.unwrap_or(None);
+        same(
+            "lookup",
+            c::lookup(slot, group, frame),
+            c::LookupAnswer {
+                question,
+                index,
+                covered: u8::from(value.is_some()),
+                value: value.unwrap_or(0),
+            },
+        )?;
+    }
+    Ok(())
+}
+
+/// The record writer.
+fn write_record(random: &mut Random, seen: &mut Seen) -> Result<(), String> {
+    let group = random.range(0, 8) as u8;
+    let first = random.pick(&[0, 1, 255, 256, 65_534, 65_535, 4660]);
+    let last = random.pick(&[0, 1, 255, 256, 65_534, 65_535, 4661]).max(
+        // Most often the frames are in order.
+        if random.percent(80) { first } else { 0 },
+    );
+    let load = random.pick(&[0, 1, 100, 513, 999, 1000, 1001, 65_535]);
+    let length = inputs::length(random, 9);
+    let before = random.bytes(length);
+    let mut buffer = before.clone();
+    let answer = c::write_record(group, first, last, load, &mut buffer);
+    let expected = reference::write_record(group, first, last, load, length);
+    let (question, index) = number(&expected);
+    same("write_record", answer, c::RecordAnswer { question, index })?;
+    let mut after = expected.unwrap_or_default();
+    after.extend(&before[after.len()..]);
+    same_places("buffer of write_record", &buffer, &after)?;
+    seen.record[usize::from(question)] += 1;
+    Ok(())
+}

@@ -1,0 +1,239 @@
+//! Demand 3 for the proved library, against every fitting list of a small log.
+
+use crate::compare::same;
+use crate::inputs::{self, Fields};
+use crate::random::Random;
+use pacer::{Bound, Kind, Query};
+use reference::brute::{self, Frame};
+use reference::Stretch;
+
+/// How much was tried.
+#[derive(Clone, Copy, Default)]
+pub struct Tried {
+    pub queries: u64,
+    pub refused: u64,
+}
+
+/// What the library writes and reads back: the rows and the error, or the question.
+fn outcome(kind: u8, bound: Bound, log: &[u8]) -> Result<(Vec<Stretch>, u64), u8> {
+    let mut slot = [0; pacer::SLOT_BYTES];
+    let query = Query {
+        kind: Kind(kind),
+        bound,
+    };
+    pacer::query(query, log, &mut slot).map_err(|refusal| refusal.question)?;
+    let profile = pacer::read(&slot).map_err(|refusal| refusal.question)?;
+    let rows = profile
+        .rows()
+        .map(|row| Stretch {
+            group: row.group,
+            first: row.first,
+            last: row.last,
+            value: row.value,
+        })
+        .collect();
+    Ok((rows, profile.error()))
+}
+
+/// The rows of the answer are a fitting list, and the error is theirs.
+fn fitting(rows: &[Stretch], error: u64, frames: &[Frame]) -> Result<(), String> {
+    same("the rows fit", brute::fits(rows, frames), true)?;
+    same(
+        "the error frame by frame",
+        error,
+        brute::squared_error(rows, frames),
+    )
+}
+
+/// A row limit: `least` has the least error of the fitting lists of exactly k rows at place k.
+fn limit(
+    kind: u8,
+    c: u16,
+    log: &[u8],
+    frames: &[Frame],
+    least: &[Option<u64>],
+    tried: &mut Tried,
+) -> Result<Option<Vec<Stretch>>, String> {
+    tried.queries += 1;
+    let reachable = least.iter().take(usize::from(c) + 1);
+    // The least error of at most c rows and the fewest rows that have it.
+    let best = reachable
+        .enumerate()
+        .filter_map(|(rows, error)| error.map(|error| (error, rows)))
+        .min();
+    match (outcome(kind, Bound::Rows(c), log), best) {
+        (Ok((rows, error)), Some(best)) => {
+            same("least error and fewest rows", (error, rows.len()), best)?;
+            fitting(&rows, error, frames)?;
+            Ok(Some(rows))
+        }
+        (Err(question), None) => {
+            tried.refused += 1;
+            same("too few rows", question, 10)?;
+            Ok(None)
+        }
+        (found, best) => Err(format!("the library gives {found:?}, the lists {best:?}")),
+    }
+}
+
+/// A share of the least error at the fewest rows.
+fn share(
+    kind: u8,
+    p: u16,
+    log: &[u8],
+    frames: &[Frame],
+    least: &[Option<u64>],
+    tried: &mut Tried,
+) -> Result<Option<Vec<Stretch>>, String> {
+    tried.queries += 1;
+    let most = least
+        .iter()
+        .flatten()
+        .next()
+        .copied()
+        .map(|error| u128::from(error) * u128::from(p));
+    // The fewest rows with a list within the share.
+    let best = least.iter().take(65).enumerate().find_map(|(rows, error)| {
+        let (error, most) = ((*error)?, most?);
+        (u128::from(error) * 1000 <= most).then_some((error, rows))
+    });
+    match (outcome(kind, Bound::Share(p), log), best) {
+        (Ok((rows, error)), Some(best)) => {
+            same("fewest rows within the share", (error, rows.len()), best)?;
+            fitting(&rows, error, frames)?;
+            Ok(Some(rows))
+        }
+        (Err(question), None) => {
+            tried.refused += 1;
+            same("too few rows for the share", question, 10)?;
+            Ok(None)
+        }
+        (found, best) => Err(format!("the library gives {found:?}, the lists {best:?}")),
+    }
+}
+
+/// One small log with all limits that matter and several shares.
+pub fn run_small(random: &mut Random, tried: &mut Tried) -> Result<(), String> {
+    let records = small_records(random);
+    let log = inputs::log_of(&records);
+    let kind = random.range(0, 3) as u8;
+    let decoded = reference::records(&log);
+    let frames = reference::covered(&decoded, kind);
+    let segments = reference::segments_of(&decoded, kind);
+
+    let least = brute::least_by_cuttings(&frames);
+    let greatest = frames.iter().map(|f| f.2).max().unwrap_or(0);
+    if frames.len() <= 5 && greatest <= 4 {
+        // Every combination of numbers as well.
+        same("lists", brute::least_by_lists(&frames), least.clone())?;
+    }
+    let context = |why| format!("records {records:?}, kind {kind}: {why}");
+    for c in 0..=frames.len() as u16 + 1 {
+        let rows = limit(kind, c, &log, &frames, &least, tried)
+            .map_err(|why| context(format!("limit {c}: {why}")))?;
+        if let Some(rows) = rows {
+            let chosen = brute::best_cutting(&segments, usize::from(c), false);
+            same("the paper's rows", Some(rows), chosen).map_err(context)?;
+        }
+    }
+    let mut shares = vec![0, 1000, random.range(0, 1000), random.range(0, 100)];
+    if let Some(most) = least.iter().flatten().next().filter(|most| **most > 0) {
+        // The least share that each number of rows meets, and the one below it.
+        for error in least.iter().flatten() {
+            let share = (error * 1000).div_ceil(*most);
+            shares.extend([share, share.saturating_sub(1)]);
+        }
+    }
+    shares.sort_unstable();
+    shares.dedup();
+    for p in shares {
+        let rows = share(kind, p as u16, &log, &frames, &least, tried)
+            .map_err(|why| context(format!("share {p}: {why}")))?;
+        if let Some(rows) = rows {
+            let chosen = brute::best_cutting(&segments, rows.len(), true);
+            same("the paper's rows", Some(rows), chosen).map_err(context)?;
+        }
+    }
+    Ok(())
+}
+
+/// Records that cover at most ten frames.
+fn small_records(random: &mut Random) -> Vec<Fields> {
+    let groups: Vec<u8> = match random.range(0, 3) {
+        0 | 1 => vec![random.range(0, 7) as u8],
+        2 => vec![0, 7],
+        _ => vec![1, 2, 5],
+    };
+    let base = if random.percent(15) {
+        65_536 - 10
+    } else {
+        random.range(0, 3)
+    };
+    let greatest = match random.range(0, 39) {
+        0 => 1000,
+        1..=15 => 3,
+        _ => 9,
+    };
+    let span = random.range(1, 10);
+    let mut records: Vec<Fields> = Vec::new();
+    for _ in 0..random.range(0, 9) {
+        let length = random.range(1, span.min(4));
+        let first = base + random.range(0, span - length);
+        let record = (
+            random.pick(&groups),
+            first as u16,
+            (first + length - 1) as u16,
+            random.range(0, greatest) as u16,
+        );
+        records.push(record);
+        let covered = reference::covered(&reference::records(&inputs::log_of(&records)), 1).len();
+        if covered > 10 {
+            records.pop();
+        } else if random.percent(10) {
+            records.push(record);
+        }
+    }
+    records
+}
+
+/// One log of many frames, so that 64 rows can be too few, against a table over its frames.
+pub fn run_many(random: &mut Random, tried: &mut Tried) -> Result<(), String> {
+    let count = random.range(40, 120);
+    let greatest = random.range(1, 9);
+    // One run, a few runs, or almost as many runs as frames.
+    let apart = random.pick(&[0, 2, 10, 60, 95]);
+    let mut frame = random.range(0, 5) as u16;
+    let mut group = 0;
+    let records: Vec<Fields> = (0..count)
+        .map(|_| {
+            if random.percent(2) && group < 7 {
+                group += 1;
+            }
+            frame += if random.percent(apart) { 2 } else { 1 };
+            (group, frame, frame, random.range(0, greatest) as u16)
+        })
+        .collect();
+    let log = inputs::log_of(&records);
+    let kind = random.pick(&[0, 2, 3]);
+    let decoded = reference::records(&log);
+    let frames = reference::covered(&decoded, kind);
+    let least = brute::least_by_table(&frames, 64);
+    // The fewest rows of any list, also where they are more than 64.
+    let m = reference::runs(&reference::segments_of(&decoded, kind)) as u64;
+    let context = |why| format!("records {records:?}, kind {kind}: {why}");
+
+    for c in [
+        random.range(0, 64),
+        64,
+        m.min(64),
+        m.saturating_sub(1).min(64),
+    ] {
+        limit(kind, c as u16, &log, &frames, &least, tried)
+            .map_err(|why| context(format!("limit {c}: {why}")))?;
+    }
+    for p in [0, 1000, random.range(0, 10), random.range(0, 1000)] {
+        share(kind, p as u16, &log, &frames, &least, tried)
+            .map_err(|why| context(format!("share {p}: {why}")))?;
+    }
+    Ok(())
+}

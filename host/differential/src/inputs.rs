@@ -1,0 +1,384 @@
+//! Random logs, queries and slots.
+
+use crate::random::Random;
+use reference::{Stretch, Table};
+
+/// A record: group, first, last, load.
+pub type Fields = (u8, u16, u16, u16);
+
+fn bytes_of((group, first, last, load): Fields) -> Vec<u8> {
+    let mut bytes = vec![0x4C, 0x44, group];
+    for number in [first, last, load] {
+        bytes.extend(number.to_le_bytes());
+    }
+    bytes
+}
+
+/// The bytes of a log.
+pub fn log_of(records: &[Fields]) -> Vec<u8> {
+    records
+        .iter()
+        .flat_map(|record| bytes_of(*record))
+        .collect()
+}
+
+/// A load from one of several narrow or wide choices.
+fn load(random: &mut Random, palette: u64) -> u16 {
+    match palette {
+        0 => random.range(0, 3) as u16,
+        1 => random.range(0, 1000) as u16,
+        2 => random.pick(&[0, 1000]),
+        3 => random.pick(&[100, 200, 300]),
+        4 => 7,
+        5 => random.range(0, 30) as u16,
+        _ => random.range(990, 1000) as u16,
+    }
+}
+
+/// Records spread over some frames and groups; some are equal to an earlier one, some differ from
+/// it in the load alone.
+fn spread(random: &mut Random, count: u64, base: u64, span: u64, groups: &[u8]) -> Vec<Fields> {
+    let palette = random.range(0, 6);
+    let longest = random.range(1, span);
+    let mut records: Vec<Fields> = Vec::new();
+    for _ in 0..count {
+        let again = !records.is_empty() && random.percent(15);
+        let record = if again {
+            let (group, first, last, kept) = random.pick(&records);
+            let new = if random.percent(50) {
+                kept
+            } else {
+                load(random, palette)
+            };
+            (group, first, last, new)
+        } else {
+            let length = random.range(1, longest);
+            let first = base + random.range(0, span - length);
+            let last = first + length - 1;
+            (
+                random.pick(groups),
+                first as u16,
+                last as u16,
+                load(random, palette),
+            )
+        };
+        records.push(record);
+    }
+    records
+}
+
+const ALL: [u8; 8] = [0, 1, 2, 3, 4, 5, 6, 7];
+
+fn some_groups(random: &mut Random) -> Vec<u8> {
+    let count = random.range(1, 3);
+    (0..count).map(|_| random.pick(&ALL)).collect()
+}
+
+/// Random records that get 'yes' to every question. The shapes that take the independent
+/// implementation long are rare.
+pub fn records(random: &mut Random) -> Vec<Fields> {
+    match random.range(0, 999) {
+        // A few records, near each other.
+        0..=449 => {
+            let groups = some_groups(random);
+            let (count, span) = (random.range(0, 8), random.range(1, 24));
+            spread(random, count, 0, span, &groups)
+        }
+        // All groups.
+        450..=649 => {
+            let (count, span) = (random.range(0, 24), random.range(1, 30));
+            spread(random, count, 0, span, &ALL)
+        }
+        // More records in few groups.
+        650..=799 => {
+            let groups = some_groups(random);
+            let (count, span) = (random.range(8, 40), random.range(20, 120));
+            spread(random, count, 0, span, &groups)
+        }
+        // The last frames that there are; frame 65,535 is often among them.
+        800..=899 => {
+            let groups = some_groups(random);
+            let (count, span) = (random.range(1, 16), random.range(1, 60));
+            let mut records = spread(random, count, 65_536 - span, span, &groups);
+            if random.percent(60) {
+                let place = random.range(0, records.len() as u64 - 1) as usize;
+                records[place].2 = 65_535;
+            }
+            records
+        }
+        // Long logs.
+        900..=911 | 962..=985 => {
+            let groups = if random.percent(60) {
+                vec![random.pick(&ALL)]
+            } else {
+                ALL.to_vec()
+            };
+            let (count, span) = (random.range(60, 128), random.range(40, 400));
+            spread(random, count, 0, span, &groups)
+        }
+        // Records over all frames.
+        912..=913 => {
+            let groups = some_groups(random);
+            let count = random.range(1, 12);
+            spread(random, count, 0, 65_536, &groups)
+        }
+        // Steps up and down: with 128 records 255 segments in one run.
+        914..=916 => {
+            let count = if random.percent(50) {
+                128
+            } else {
+                random.range(60, 128)
+            };
+            let width = random.range(1, 2);
+            let palette = random.pick(&[1, 3, 5]);
+            (0..count)
+                .map(|i| {
+                    let last = 2 * 128 * width - i * width;
+                    let load = load(random, palette).max(1);
+                    (3, (i * width) as u16, last as u16, load)
+                })
+                .collect()
+        }
+        // Many runs: single frames apart from each other, here and there in pairs.
+        917..=946 => {
+            let count = random.range(30, 128);
+            let palette = random.range(0, 6);
+            let mut frame = 0;
+            (0..count)
+                .map(|_| {
+                    frame += random.pick(&[1, 2, 2, 3]);
+                    (2, frame, frame, load(random, palette))
+                })
+                .collect()
+        }
+        // Neighbours in one run, as many as records.
+        947..=956 => {
+            let count = random.range(30, 90);
+            let palette = random.range(0, 6);
+            (0..count)
+                .map(|i| (5, i as u16, i as u16, load(random, palette)))
+                .collect()
+        }
+        // Each record shares its last frame with the next one's first. With equal loads two
+        // values take turns, and the scan of the cuts is hardly ever left early.
+        957..=960 => {
+            let count = random.range(20, 128);
+            let palette = random.pick(&[1, 4, 4, 4]);
+            (0..count)
+                .map(|i| {
+                    let first = 2 * i as u16;
+                    (6, first, first + 2, load(random, palette))
+                })
+                .collect()
+        }
+        // One record, of any length.
+        961 => spread(random, 1, 0, 65_536, &ALL),
+        // No record, or one.
+        _ => {
+            let count = random.range(0, 1);
+            spread(random, count, 0, 9, &ALL)
+        }
+    }
+}
+
+/// Makes some bytes or the length of a log wrong, or leaves it as it is.
+pub fn damage_log(random: &mut Random, log: &mut Vec<u8>) {
+    if random.percent(75) {
+        return;
+    }
+    for _ in 0..random.range(1, 2) {
+        let count = log.len() as u64 / 9;
+        match random.range(0, 9) {
+            0 if !log.is_empty() => {
+                let place = random.range(0, log.len() as u64 - 1) as usize;
+                log[place] = random.next() as u8;
+            }
+            1 => {
+                let kept = random.range(0, log.len() as u64) as usize;
+                log.truncate(kept);
+            }
+            2 => {
+                let more = random.range(1, 9) as usize;
+                let added = random.bytes(more);
+                log.extend(added);
+            }
+            // Above 128 records, with or without a wrong length.
+            3 if random.percent(40) => {
+                let wanted = random.range(129, 140) as usize;
+                let record = bytes_of((0, 0, 0, 1));
+                while log.len() < 9 * wanted {
+                    log.extend(&record);
+                }
+                if random.percent(20) {
+                    log.push(0);
+                }
+            }
+            // One field of one record, often only just wrong.
+            _ if count > 0 => {
+                let at = 9 * random.range(0, count - 1) as usize;
+                if at + 9 > log.len() {
+                    return;
+                }
+                match random.range(0, 4) {
+                    0 => log[at] ^= 1 << random.range(0, 7),
+                    1 => log[at + 1] ^= 1 << random.range(0, 7),
+                    2 => log[at + 2] = random.pick(&[8, 9, 255]),
+                    3 => {
+                        let (first, last) = (log[at + 3], log[at + 5]);
+                        log[at + 3] = last;
+                        log[at + 5] = first;
+                    }
+                    _ => {
+                        let load: u16 = random.pick(&[1000, 1001, 1002, 1256, 65_535]);
+                        log[at + 7..at + 9].copy_from_slice(&load.to_le_bytes());
+                    }
+                }
+            }
+            _ => {}
+        }
+    }
+}
+
+/// A kind, sometimes one that there is not.
+pub fn kind(random: &mut Random) -> u8 {
+    if random.percent(4) {
+        random.pick(&[4, 5, 128, 255])
+    } else {
+        random.range(0, 3) as u8
+    }
+}
+
+/// A rule and a bound for some segments, often at a place where the answer changes.
+pub fn bound(random: &mut Random, segments: &[Stretch]) -> (u8, u16) {
+    let n = segments.len() as u64;
+    let m = reference::runs(segments) as u64;
+    match random.range(0, 99) {
+        0..=1 => (random.next() as u8, random.range(0, 64) as u16),
+        2..=3 => (reference::ROWS, random.pick(&[64, 65, 66, 256, 65_535])),
+        4..=5 => (
+            reference::SHARE,
+            random.pick(&[999, 1000, 1001, 1024, 65_535]),
+        ),
+        6..=25 => (reference::ROWS, random.range(0, 64) as u16),
+        26..=37 => (
+            reference::ROWS,
+            random.range(m.saturating_sub(1), m + 1) as u16,
+        ),
+        38..=53 => (reference::ROWS, random.range(0, n + 1).min(64) as u16),
+        54..=69 => (reference::SHARE, random.range(0, 1000) as u16),
+        70..=75 => (reference::SHARE, random.pick(&[0, 1, 2, 999, 1000])),
+        76..=81 => (reference::SHARE, random.range(0, 30) as u16),
+        // The least share that some number of rows meets, or one beside it.
+        _ if n > 0 && n <= 48 && m <= n => {
+            let k = random.range(m, n) as usize;
+            let mut table = Table::new(segments);
+            while table.rows() < k {
+                table.grow();
+            }
+            let most = table.error(m as usize).unwrap_or(0);
+            let share = if most == 0 {
+                0
+            } else {
+                let error = u128::from(table.error(k).unwrap_or(0));
+                (error * 1000).div_ceil(u128::from(most)) as u64
+            };
+            let share = random.range(share.saturating_sub(1), share + 1);
+            (reference::SHARE, share as u16)
+        }
+        _ => (reference::SHARE, random.range(0, 1000) as u16),
+    }
+}
+
+/// A length near the least allowed one.
+pub fn length(random: &mut Random, least: u64) -> usize {
+    let length = match random.range(0, 99) {
+        0..=69 => least,
+        70..=94 => random.range(least.saturating_sub(8), least + 8),
+        _ => random.pick(&[0, 1, least / 2, least - 1, least + 1, 2 * least]),
+    };
+    length as usize
+}
+
+/// A slot that no query wrote: rows in order, most often right, sometimes with a fault.
+pub fn slot(random: &mut Random) -> Vec<u8> {
+    let wanted = match random.range(0, 9) {
+        0 => 64,
+        1 => 63,
+        2 => 0,
+        _ => random.range(0, 64),
+    };
+    let mut rows: Vec<Stretch> = Vec::new();
+    let (mut group, mut frame) = (random.range(0, 1), 0);
+    while (rows.len() as u64) < wanted {
+        if random.percent(12) && group < 7 {
+            group += 1;
+            frame = 0;
+        }
+        let first = frame + random.range(0, 3);
+        let last = first + random.range(0, 5) * random.range(0, 200);
+        if last > 65_535 {
+            if group == 7 {
+                break;
+            }
+            group += 1;
+            frame = 0;
+            continue;
+        }
+        rows.push(Stretch {
+            group: group as u8,
+            first: first as u16,
+            last: last as u16,
+            value: random.range(0, 128_000) as u32,
+        });
+        frame = last + 1;
+        if random.percent(2) {
+            frame = 65_535;
+        }
+    }
+    if !rows.is_empty() && random.percent(30) {
+        let at = random.range(0, rows.len() as u64 - 1) as usize;
+        match random.range(0, 5) {
+            0 => rows[at].value = random.pick(&[127_999, 128_000, 128_001, 128_256, u32::MAX]),
+            1 => rows[at].group = random.pick(&[7, 8, 255]),
+            2 => rows[at].first = rows[at].last.wrapping_add(1),
+            3 => rows[at].first = rows[at].first.wrapping_sub(1),
+            4 => rows[at].last = rows[at].last.wrapping_add(random.pick(&[1, 2, 3])),
+            _ => {
+                let other = random.range(0, rows.len() as u64 - 1) as usize;
+                rows.swap(at, other);
+            }
+        }
+    }
+    let error = random.pick(&[0, 1, 11_280, u64::MAX]).wrapping_mul(3);
+    reference::layout(random.range(0, 3) as u8, error, &rows)
+}
+
+/// Makes some bytes of a slot wrong, or leaves it as it is.
+pub fn damage_slot(random: &mut Random, slot: &mut [u8]) {
+    if slot.len() < 768 || random.percent(40) {
+        return;
+    }
+    for _ in 0..random.range(1, 2) {
+        let rows = usize::from(slot[3]).min(64);
+        let end = 12 + 11 * rows;
+        match random.range(0, 9) {
+            0 => slot[random.range(0, 1) as usize] ^= 1 << random.range(0, 7),
+            1 => slot[2] = random.pick(&[0, 3, 4, 255]),
+            2 => slot[3] = random.pick(&[0, 63, 64, 65, 255]),
+            3 => slot[3] = slot[3].wrapping_add(random.pick(&[1, 255])),
+            4 => slot[random.range(4, 11) as usize] = random.next() as u8,
+            5 => slot[random.range(end as u64, 767) as usize] = random.next() as u8,
+            6 => slot[random.pick(&[end, 767])] = 1,
+            _ if rows > 0 => {
+                let at = 12 + 11 * random.range(0, rows as u64 - 1) as usize;
+                let byte = at + random.range(0, 10) as usize;
+                slot[byte] = match random.range(0, 2) {
+                    0 => slot[byte] ^ (1 << random.range(0, 7)),
+                    1 => slot[byte].wrapping_add(1),
+                    _ => random.next() as u8,
+                };
+            }
+            _ => {}
+        }
+    }
+}

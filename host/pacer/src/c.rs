@@ -1,0 +1,189 @@
+//! The functions of the C interface, each behind a safe function that takes slices.
+//!
+//! This is the only module with `unsafe` code. Nothing compares its declarations with the
+//! library's source; they repeat `include/pacer.h`. A Rust slice always meets what the header
+//! asks of a pointer and its length, and a shared and an exclusive slice never overlap, so these
+//! functions are safe for every argument.
+
+/// The bound is a row limit.
+pub const ROWS: u8 = 0x52;
+/// The bound is an error share.
+pub const SHARE: u8 = 0x45;
+
+/// The answer of [`write_record`].
+#[repr(C)]
+#[derive(Clone, Copy, Debug, PartialEq, Eq)]
+pub struct RecordAnswer {
+    pub question: u8,
+    pub index: usize,
+}
+
+/// The answer of [`segments`].
+#[repr(C)]
+#[derive(Clone, Copy, Debug, PartialEq, Eq)]
+pub struct SegmentsAnswer {
+    pub question: u8,
+    pub index: usize,
+    pub count: usize,
+}
+
+/// The answer of [`query`].
+#[repr(C)]
+#[derive(Clone, Copy, Debug, PartialEq, Eq)]
+pub struct QueryAnswer {
+    pub question: u8,
+    pub index: usize,
+    pub rows: usize,
+    pub error: u64,
+    pub weighed: u64,
+}
+
+/// The answer of [`read`].
+#[repr(C)]
+#[derive(Clone, Copy, Debug, PartialEq, Eq)]
+pub struct ReadAnswer {
+    pub question: u8,
+    pub index: usize,
+    pub kind: u8,
+    pub rows: usize,
+    pub error: u64,
+}
+
+/// The answer of [`row_at`]; `found` is 1 for a row and 0 at the end and in a refusal.
+#[repr(C)]
+#[derive(Clone, Copy, Debug, PartialEq, Eq)]
+pub struct StepAnswer {
+    pub question: u8,
+    pub index: usize,
+    pub found: u8,
+    pub group: u8,
+    pub first: u16,
+    pub last: u16,
+    pub value: u32,
+    pub next: usize,
+}
+
+/// The answer of [`lookup`]; `covered` is 1 if a row of the group contains the frame.
+#[repr(C)]
+#[derive(Clone, Copy, Debug, PartialEq, Eq)]
+pub struct LookupAnswer {
+    pub question: u8,
+    pub index: usize,
+    pub covered: u8,
+    pub value: u32,
+}
+
+/// A longest stretch of consecutive covered frames of one group with equal value.
+///
+/// Both frames are included. The layout is that of the C interface, so that a list of segments
+/// can be lent to the library as it is.
+#[repr(C)]
+#[derive(Clone, Copy, Debug, Default, PartialEq, Eq, Hash)]
+pub struct Segment {
+    /// The group, 0 to 7.
+    pub group: u8,
+    /// The first frame.
+    pub first: u16,
+    /// The last frame.
+    pub last: u16,
+    /// The value of every frame of the segment.
+    pub value: u32,
+}
+
+mod declared {
+    use super::*;
+
+    extern "C" {
+        pub fn pacer_write_record(
+            group: u8,
+            first: u16,
+            last: u16,
+            load: u16,
+            buffer: *mut u8,
+            length: usize,
+        ) -> RecordAnswer;
+        pub fn pacer_query(
+            kind: u8,
+            rule: u8,
+            bound: u16,
+            log: *const u8,
+            log_length: usize,
+            slot: *mut u8,
+            slot_length: usize,
+        ) -> QueryAnswer;
+        pub fn pacer_segments(
+            log: *const u8,
+            log_length: usize,
+            kind: u8,
+            list: *mut Segment,
+            places: usize,
+        ) -> SegmentsAnswer;
+        pub fn pacer_read(slot: *const u8, length: usize) -> ReadAnswer;
+        pub fn pacer_row_at(slot: *const u8, length: usize, number: usize) -> StepAnswer;
+        pub fn pacer_lookup(slot: *const u8, length: usize, group: u8, frame: u16) -> LookupAnswer;
+    }
+}
+
+/// Calls `pacer_write_record`.
+#[inline]
+pub fn write_record(
+    group: u8,
+    first: u16,
+    last: u16,
+    load: u16,
+    buffer: &mut [u8],
+) -> RecordAnswer {
+    // SAFETY: pointer and length are those of an exclusive slice.
+    unsafe {
+        declared::pacer_write_record(group, first, last, load, buffer.as_mut_ptr(), buffer.len())
+    }
+}
+
+/// Calls `pacer_query`. The rule is [`ROWS`] or [`SHARE`]; any other is question 3's 'no'.
+#[inline]
+pub fn query(kind: u8, rule: u8, bound: u16, log: &[u8], slot: &mut [u8]) -> QueryAnswer {
+    // SAFETY: pointers and lengths are those of a shared and an exclusive slice, which do not
+    // overlap.
+    unsafe {
+        declared::pacer_query(
+            kind,
+            rule,
+            bound,
+            log.as_ptr(),
+            log.len(),
+            slot.as_mut_ptr(),
+            slot.len(),
+        )
+    }
+}
+
+/// Calls `pacer_segments`.
+#[inline]
+pub fn segments(log: &[u8], kind: u8, list: &mut [Segment]) -> SegmentsAnswer {
+    // SAFETY: pointers and lengths are those of a shared and an exclusive slice, which do not
+    // overlap; every content of a segment's fields is valid.
+    unsafe {
+        declared::pacer_segments(log.as_ptr(), log.len(), kind, list.as_mut_ptr(), list.len())
+    }
+}
+
+/// Calls `pacer_read`.
+#[inline]
+pub fn read(slot: &[u8]) -> ReadAnswer {
+    // SAFETY: pointer and length are those of a slice.
+    unsafe { declared::pacer_read(slot.as_ptr(), slot.len()) }
+}
+
+/// Calls `pacer_row_at`.
+#[inline]
+pub fn row_at(slot: &[u8], number: usize) -> StepAnswer {
+    // SAFETY: pointer and length are those of a slice.
+    unsafe { declared::pacer_row_at(slot.as_ptr(), slot.len(), number) }
+}
+
+/// Calls `pacer_lookup`.
+#[inline]
+pub fn lookup(slot: &[u8], group: u8, frame: u16) -> LookupAnswer {
+    // SAFETY: pointer and length are those of a slice.
+    unsafe { declared::pacer_lookup(slot.as_ptr(), slot.len(), group, frame) }
+}

@@ -1,0 +1,525 @@
+//! Load profiles for the pacer.
+//!
+//! A log of loads over frames is reduced to at most 64 rows, the best that so few rows can give,
+//! and the rows are written into a slot of 768 bytes that the pacer reads. The work is done by a
+//! proved library; this crate gives its C interface the types that a Rust program expects.
+//!
+//! ```
+//! use pacer::{Bound, Kind, Query, Record, Row, SLOT_BYTES};
+//!
+//! # fn main() -> Result<(), pacer::Refusal> {
+//! // Log G: five records in two groups.
+//! let log = pacer::log(&[
+//!     Record { group: 0, first: 0, last: 3, load: 100 },
+//!     Record { group: 0, first: 2, last: 5, load: 200 },
+//!     Record { group: 0, first: 6, last: 6, load: 210 },
+//!     Record { group: 0, first: 9, last: 10, load: 50 },
+//!     Record { group: 1, first: 0, last: 0, load: 7 },
+//! ])?;
+//! let mut slot = [0; SLOT_BYTES];
+//! let query = Query { kind: Kind::SUM, bound: Bound::Rows(4) };
+//! let answer = pacer::query(query, &log, &mut slot)?;
+//! assert_eq!((answer.rows, answer.error, answer.weighed), (4, 11_280, 16));
+//!
+//! let profile = pacer::read(&slot)?;
+//! assert_eq!(profile.kind(), Kind::SUM);
+//! assert_eq!(profile.error(), 11_280);
+//! let rows: Vec<Row> = profile.rows().collect();
+//! assert_eq!(
+//!     rows,
+//!     [
+//!         Row { group: 0, first: 0, last: 1, value: 100 },
+//!         Row { group: 0, first: 2, last: 6, value: 242 },
+//!         Row { group: 0, first: 9, last: 10, value: 50 },
+//!         Row { group: 1, first: 0, last: 0, value: 7 },
+//!     ]
+//! );
+//!
+//! assert_eq!(pacer::lookup(&slot, 0, 4)?, Some(242));
+//! assert_eq!(pacer::lookup(&slot, 0, 7)?, None);
+//! # Ok(())
+//! # }
+//! ```
+//!
+//! Every call asks its questions in order. The first that gets 'no' is the [`Refusal`], and then
+//! nothing lent to the call is changed.
+
+#![deny(unsafe_code)]
+#![warn(missing_docs)]
+
+use std::error::Error;
+use std::fmt;
+use std::iter::FusedIterator;
+
+#[allow(unsafe_code)]
+#[allow(missing_docs)]
+pub mod c;
+
+pub use c::Segment;
+
+/// The length of a record in a log, in bytes.
+pub const RECORD_BYTES: usize = 9;
+/// The greatest number of records in a log.
+pub const RECORDS: usize = 128;
+/// The least number of places in a list lent for segments, and the greatest number of segments.
+pub const SEGMENT_PLACES: usize = 255;
+/// The length of a slot, in bytes.
+pub const SLOT_BYTES: usize = 768;
+/// The greatest number of rows in a slot.
+pub const ROWS: usize = 64;
+
+/// What a frame's value is, over the records of its group that contain it.
+///
+/// Any number can be asked for; one above 3 is question 2's 'no'.
+#[derive(Clone, Copy, Debug, PartialEq, Eq, PartialOrd, Ord, Hash)]
+pub struct Kind(pub u8);
+
+impl Kind {
+    /// The sum of the loads.
+    pub const SUM: Kind = Kind(0);
+    /// The count of records.
+    pub const COUNT: Kind = Kind(1);
+    /// The least load.
+    pub const LEAST: Kind = Kind(2);
+    /// The greatest load.
+    pub const GREATEST: Kind = Kind(3);
+}
+
+/// One load of a subsystem over some frames.
+#[derive(Clone, Copy, Debug, PartialEq, Eq, Hash)]
+pub struct Record {
+    /// The subsystem, 0 to 7.
+    pub group: u8,
+    /// The first frame.
+    pub first: u16,
+    /// The last frame, included; not below the first.
+    pub last: u16,
+    /// The load in thousandths of a frame's time, 0 to 1,000.
+    pub load: u16,
+}
+
+/// How far a log is reduced.
+#[derive(Clone, Copy, Debug, PartialEq, Eq, Hash)]
+pub enum Bound {
+    /// A row limit, 0 to 64: the least error that so many rows or fewer can have.
+    Rows(u16),
+    /// An error share, 0 to 1,000 thousandths: the fewest rows whose error is at most this share
+    /// of the least error at the fewest possible rows.
+    Share(u16),
+}
+
+/// What is asked of a log.
+#[derive(Clone, Copy, Debug, PartialEq, Eq, Hash)]
+pub struct Query {
+    /// The aggregate over the records that contain a frame.
+    pub kind: Kind,
+    /// The row limit or the error share.
+    pub bound: Bound,
+}
+
+/// What a query wrote into the slot.
+#[derive(Clone, Copy, Debug, PartialEq, Eq, Hash)]
+pub struct Reduction {
+    /// The count of rows.
+    pub rows: usize,
+    /// The squared error of the rows, summed frame by frame.
+    pub error: u64,
+    /// The number of cuts that the search weighed.
+    pub weighed: u64,
+}
+
+/// A row of a slot: some consecutive frames of a group and the value that stands for them.
+#[derive(Clone, Copy, Debug, PartialEq, Eq, Hash)]
+pub struct Row {
+    /// The group, 0 to 7.
+    pub group: u8,
+    /// The first frame.
+    pub first: u16,
+    /// The last frame, included.
+    pub last: u16,
+    /// The whole number nearest to the mean of the frames' values, the lower one at a half.
+    pub value: u32,
+}
+
+/// The first question that got 'no'.
+///
+/// ```
+/// use pacer::{Bound, Kind, Query};
+///
+/// let query = Query { kind: Kind(4), bound: Bound::Rows(65) };
+/// let mut slot = [0; pacer::SLOT_BYTES];
+/// let refusal = pacer::query(query, &[], &mut slot).unwrap_err();
+/// assert_eq!((refusal.question, refusal.index), (2, 0));
+/// assert_eq!(refusal.to_string(), "question 2 got 'no': Is the kind 0 to 3?");
+/// ```
+#[derive(Clone, Copy, Debug, PartialEq, Eq, Hash)]
+pub struct Refusal {
+    /// The question's number, 1 to 17.
+    pub question: u8,
+    /// The index from 0 of the record or row concerned, for questions 6 to 9 and 14 to 16; 0 for
+    /// the others.
+    pub index: usize,
+}
+
+impl Refusal {
+    /// The question's words.
+    ///
+    /// ```
+    /// let refusal = pacer::read(&[0; 768]).unwrap_err();
+    /// assert_eq!(refusal.words(), "Header mark right?");
+    /// ```
+    pub fn words(&self) -> &'static str {
+        match self.question {
+            1 => "Is the lent buffer or list long enough (slot 768, segments 255, record 9)?",
+            2 => "Is the kind 0 to 3?",
+            3 => "Is c at most 64, or p at most 1,000?",
+            4 => "Is the log's length a multiple of 9?",
+            5 => "Has it at most 128 records?",
+            6 => "Does the record begin with its mark?",
+            7 => "Is the group 0 to 7?",
+            8 => "Is first at most last?",
+            9 => "Is the load at most 1,000?",
+            10 => "Is c at least m; with a share, do 64 rows or fewer meet it?",
+            11 => "Header mark right?",
+            12 => "Slot's kind 0 to 3?",
+            13 => "Row count at most 64?",
+            14 => "Row mark right?",
+            15 => "Row's group 0 to 7, first at most last, value at most 128,000?",
+            16 => "Is its group above the previous row's, or equal with first above the previous last?",
+            17 => "Are all bytes after the last row, to 768, zero?",
+            _ => "unknown question",
+        }
+    }
+
+    fn from_answer(question: u8, index: usize) -> Result<(), Refusal> {
+        if question == 0 {
+            Ok(())
+        } else {
+            Err(Refusal { question, index })
+        }
+    }
+}
+
+impl fmt::Display for Refusal {
+    fn fmt(&self, f: &mut fmt::Formatter<'_>) -> fmt::Result {
+        write!(f, "question {}", self.question)?;
+        if matches!(self.question, 6..=9 | 14..=16) {
+            write!(f, " at index {}", self.index)?;
+        }
+        write!(f, " got 'no': {}", self.words())
+    }
+}
+
+impl Error for Refusal {}
+
+/// Writes one record into the first 9 bytes of a buffer; the other bytes keep their content.
+///
+/// Asks questions 1, 7, 8 and 9.
+///
+/// ```
+/// use pacer::Record;
+///
+/// let mut buffer = [0xEE; 10];
+/// pacer::write_record(Record { group: 0, first: 0, last: 3, load: 100 }, &mut buffer)?;
+/// assert_eq!(buffer, [0x4C, 0x44, 0, 0, 0, 3, 0, 0x64, 0, 0xEE]);
+///
+/// let late = Record { group: 0, first: 4, last: 3, load: 100 };
+/// assert_eq!(pacer::write_record(late, &mut buffer).unwrap_err().question, 8);
+/// # Ok::<(), pacer::Refusal>(())
+/// ```
+pub fn write_record(record: Record, buffer: &mut [u8]) -> Result<(), Refusal> {
+    let answer = c::write_record(record.group, record.first, record.last, record.load, buffer);
+    Refusal::from_answer(answer.question, answer.index)
+}
+
+/// The bytes of a log of some records.
+///
+/// Asks questions 7, 8 and 9 of every record; the refusal's index is the record's. The number of
+/// records is not limited here, but no other call accepts more than 128.
+///
+/// ```
+/// use pacer::Record;
+///
+/// let good = Record { group: 0, first: 0, last: 3, load: 100 };
+/// assert_eq!(pacer::log(&[good, good])?.len(), 18);
+/// let heavy = Record { load: 1_001, ..good };
+/// let refusal = pacer::log(&[good, heavy]).unwrap_err();
+/// assert_eq!((refusal.question, refusal.index), (9, 1));
+/// # Ok::<(), pacer::Refusal>(())
+/// ```
+pub fn log(records: &[Record]) -> Result<Vec<u8>, Refusal> {
+    let mut bytes = vec![0; RECORD_BYTES * records.len()];
+    for (index, (record, place)) in records
+        .iter()
+        .zip(bytes.chunks_exact_mut(RECORD_BYTES))
+        .enumerate()
+    {
+        write_record(*record, place).map_err(|refusal| Refusal { index, ..refusal })?;
+    }
+    Ok(bytes)
+}
+
+/// Writes a log's segments into a list of at least 255 places and gives those written, by group
+/// and then by first frame. The other places keep their content.
+///
+/// Asks questions 1, 2 and 4 to 9.
+///
+/// ```
+/// use pacer::{Kind, Record, Segment, SEGMENT_PLACES};
+///
+/// let log = pacer::log(&[
+///     Record { group: 0, first: 0, last: 3, load: 100 },
+///     Record { group: 0, first: 2, last: 5, load: 200 },
+/// ])?;
+/// let mut list = [Segment::default(); SEGMENT_PLACES];
+/// assert_eq!(
+///     pacer::segments(&log, Kind::SUM, &mut list)?,
+///     [
+///         Segment { group: 0, first: 0, last: 1, value: 100 },
+///         Segment { group: 0, first: 2, last: 3, value: 300 },
+///         Segment { group: 0, first: 4, last: 5, value: 200 },
+///     ]
+/// );
+/// # Ok::<(), pacer::Refusal>(())
+/// ```
+pub fn segments<'a>(
+    log: &[u8],
+    kind: Kind,
+    list: &'a mut [Segment],
+) -> Result<&'a [Segment], Refusal> {
+    let answer = c::segments(log, kind.0, list);
+    Refusal::from_answer(answer.question, answer.index)?;
+    Ok(&list[..answer.count])
+}
+
+/// Reduces a log to the rows that the query asks for and writes them into the first 768 bytes of
+/// a slot; the other bytes keep their content.
+///
+/// Asks questions 1 to 10.
+///
+/// ```
+/// use pacer::{Bound, Kind, Query, Record};
+///
+/// // Loads 0, 4 and 8 in frames 0, 1 and 2.
+/// let log = pacer::log(&[0u16, 1, 2].map(|frame| Record {
+///     group: 0,
+///     first: frame,
+///     last: frame,
+///     load: 4 * frame,
+/// }))?;
+/// let mut slot = [0; pacer::SLOT_BYTES];
+/// let query = Query { kind: Kind::SUM, bound: Bound::Rows(2) };
+/// assert_eq!(pacer::query(query, &log, &mut slot)?.error, 8);
+///
+/// let query = Query { kind: Kind::SUM, bound: Bound::Rows(0) };
+/// assert_eq!(pacer::query(query, &log, &mut slot).unwrap_err().question, 10);
+/// # Ok::<(), pacer::Refusal>(())
+/// ```
+pub fn query(query: Query, log: &[u8], slot: &mut [u8]) -> Result<Reduction, Refusal> {
+    let (rule, bound) = match query.bound {
+        Bound::Rows(limit) => (c::ROWS, limit),
+        Bound::Share(share) => (c::SHARE, share),
+    };
+    let answer = c::query(query.kind.0, rule, bound, log, slot);
+    Refusal::from_answer(answer.question, answer.index)?;
+    Ok(Reduction {
+        rows: answer.rows,
+        error: answer.error,
+        weighed: answer.weighed,
+    })
+}
+
+/// Reads a slot.
+///
+/// Asks questions 1 and 11 to 17. Every error number is accepted. Whether the slot belongs to
+/// some log is the caller's care.
+///
+/// ```
+/// let mut slot = [0; pacer::SLOT_BYTES];
+/// slot[..2].copy_from_slice(&[0x50, 0x48]);
+/// let profile = pacer::read(&slot)?;
+/// assert_eq!((profile.len(), profile.error()), (0, 0));
+///
+/// slot[767] = 1;
+/// assert_eq!(pacer::read(&slot).unwrap_err().question, 17);
+/// # Ok::<(), pacer::Refusal>(())
+/// ```
+pub fn read(slot: &[u8]) -> Result<Profile<'_>, Refusal> {
+    let answer = c::read(slot);
+    Refusal::from_answer(answer.question, answer.index)?;
+    Ok(Profile {
+        slot,
+        kind: Kind(answer.kind),
+        error: answer.error,
+        count: answer.rows,
+    })
+}
+
+/// An accepted slot.
+#[derive(Clone, Copy, Debug)]
+pub struct Profile<'a> {
+    slot: &'a [u8],
+    kind: Kind,
+    error: u64,
+    count: usize,
+}
+
+impl<'a> Profile<'a> {
+    /// The kind that the slot names.
+    pub fn kind(&self) -> Kind {
+        self.kind
+    }
+
+    /// The error that the slot names.
+    pub fn error(&self) -> u64 {
+        self.error
+    }
+
+    /// The count of rows.
+    pub fn len(&self) -> usize {
+        self.count
+    }
+
+    /// Whether there is no row.
+    pub fn is_empty(&self) -> bool {
+        self.count == 0
+    }
+
+    /// The rows, by group and then by first frame.
+    pub fn rows(&self) -> Rows<'a> {
+        Rows {
+            walker: Walker::new(self.slot),
+            count: self.count,
+        }
+    }
+
+    /// The value of the row that contains a frame of a group, if there is one. Asks question 7.
+    pub fn lookup(&self, group: u8, frame: u16) -> Result<Option<u32>, Refusal> {
+        lookup(self.slot, group, frame)
+    }
+}
+
+impl<'a> IntoIterator for Profile<'a> {
+    type Item = Row;
+    type IntoIter = Rows<'a>;
+
+    fn into_iter(self) -> Rows<'a> {
+        self.rows()
+    }
+}
+
+/// An iterator over the rows of an accepted slot.
+///
+/// ```
+/// # use pacer::{Bound, Kind, Query, Record};
+/// # let log = pacer::log(&[Record { group: 3, first: 5, last: 9, load: 40 }])?;
+/// # let mut slot = [0; pacer::SLOT_BYTES];
+/// # pacer::query(Query { kind: Kind::SUM, bound: Bound::Rows(1) }, &log, &mut slot)?;
+/// let mut rows = pacer::read(&slot)?.rows();
+/// assert_eq!(rows.len(), 1);
+/// assert_eq!(rows.next().map(|row| (row.group, row.value)), Some((3, 40)));
+/// assert_eq!(rows.next(), None);
+/// # Ok::<(), pacer::Refusal>(())
+/// ```
+#[derive(Clone, Debug)]
+pub struct Rows<'a> {
+    walker: Walker<'a>,
+    count: usize,
+}
+
+impl Iterator for Rows<'_> {
+    type Item = Row;
+
+    fn next(&mut self) -> Option<Row> {
+        // The slot was accepted and is borrowed, so no step is refused.
+        self.walker.step().ok().flatten()
+    }
+
+    fn size_hint(&self) -> (usize, Option<usize>) {
+        let left = self.count - self.walker.number();
+        (left, Some(left))
+    }
+}
+
+impl ExactSizeIterator for Rows<'_> {}
+
+impl FusedIterator for Rows<'_> {}
+
+/// A walk over a slot: the slot and the number of the next row.
+///
+/// Unlike [`Rows`] it can start over any bytes; every step asks the slot's questions.
+///
+/// ```
+/// use pacer::Walker;
+///
+/// let mut slot = [0; pacer::SLOT_BYTES];
+/// assert_eq!(Walker::new(&slot).step().unwrap_err().question, 11);
+/// slot[..2].copy_from_slice(&[0x50, 0x48]);
+/// assert_eq!(Walker::new(&slot).step(), Ok(None));
+/// ```
+#[derive(Clone, Debug)]
+pub struct Walker<'a> {
+    slot: &'a [u8],
+    number: usize,
+}
+
+impl<'a> Walker<'a> {
+    /// A walk from row 0.
+    pub fn new(slot: &'a [u8]) -> Self {
+        Walker { slot, number: 0 }
+    }
+
+    /// The number of the next row.
+    pub fn number(&self) -> usize {
+        self.number
+    }
+
+    /// Hands out the next row, or `None` at the end. The end and a refusal change nothing.
+    pub fn step(&mut self) -> Result<Option<Row>, Refusal> {
+        let row = row_at(self.slot, self.number)?;
+        if row.is_some() {
+            self.number += 1;
+        }
+        Ok(row)
+    }
+}
+
+/// The row with a number, from 0; `None` if the number is not below the count of rows.
+///
+/// Asks questions 1 and 11 to 17.
+///
+/// ```
+/// let mut slot = [0; pacer::SLOT_BYTES];
+/// slot[..2].copy_from_slice(&[0x50, 0x48]);
+/// assert_eq!(pacer::row_at(&slot, 0), Ok(None));
+/// ```
+pub fn row_at(slot: &[u8], number: usize) -> Result<Option<Row>, Refusal> {
+    let answer = c::row_at(slot, number);
+    Refusal::from_answer(answer.question, answer.index)?;
+    Ok((answer.found == 1).then_some(Row {
+        group: answer.group,
+        first: answer.first,
+        last: answer.last,
+        value: answer.value,
+    }))
+}
+
+/// The value of the row of a group that contains a frame; `None` if the frame is uncovered.
+///
+/// Asks questions 1 and 11 to 17, then 7 of the group asked for.
+///
+/// ```
+/// # use pacer::{Bound, Kind, Query, Record};
+/// # let log = pacer::log(&[Record { group: 3, first: 5, last: 9, load: 40 }])?;
+/// # let mut slot = [0; pacer::SLOT_BYTES];
+/// # pacer::query(Query { kind: Kind::SUM, bound: Bound::Rows(1) }, &log, &mut slot)?;
+/// assert_eq!(pacer::lookup(&slot, 3, 9)?, Some(40));
+/// assert_eq!(pacer::lookup(&slot, 3, 10)?, None);
+/// assert_eq!(pacer::lookup(&slot, 8, 9).unwrap_err().question, 7);
+/// # Ok::<(), pacer::Refusal>(())
+/// ```
+pub fn lookup(slot: &[u8], group: u8, frame: u16) -> Result<Option<u32>, Refusal> {
+    let answer = c::lookup(slot, group, frame);
+    Refusal::from_answer(answer.question, answer.index)?;
+    Ok((answer.covered == 1).then_some(answer.value))
+}

@@ -1,0 +1,162 @@
+//! Log G and the paper's other small cases, through the safe functions.
+
+use pacer::{Bound, Kind, Query, Record, Refusal, Row, Segment, SEGMENT_PLACES, SLOT_BYTES};
+
+fn record(group: u8, first: u16, last: u16, load: u16) -> Record {
+    Record {
+        group,
+        first,
+        last,
+        load,
+    }
+}
+
+fn log_g() -> Vec<u8> {
+    pacer::log(&[
+        record(0, 0, 3, 100),
+        record(0, 2, 5, 200),
+        record(0, 6, 6, 210),
+        record(0, 9, 10, 50),
+        record(1, 0, 0, 7),
+    ])
+    .unwrap()
+}
+
+fn sum(bound: Bound) -> Query {
+    Query {
+        kind: Kind::SUM,
+        bound,
+    }
+}
+
+/// A row: group, first, last, value.
+type Fields = (u8, u16, u16, u32);
+
+/// The rows and the error that a bound gives, read back from the slot.
+fn reduce(bound: Bound, log: &[u8]) -> Result<(Vec<Fields>, u64), Refusal> {
+    let mut slot = [0xAA; SLOT_BYTES + 3];
+    let answer = pacer::query(sum(bound), log, &mut slot)?;
+    assert_eq!(slot[SLOT_BYTES..], [0xAA; 3]);
+    let profile = pacer::read(&slot)?;
+    assert_eq!(profile.len(), answer.rows);
+    assert_eq!(profile.error(), answer.error);
+    assert_eq!(profile.kind(), Kind::SUM);
+    let rows = profile
+        .rows()
+        .map(|r| (r.group, r.first, r.last, r.value))
+        .collect();
+    Ok((rows, answer.error))
+}
+
+fn error(bound: Bound, log: &[u8]) -> Result<(usize, u64), Refusal> {
+    reduce(bound, log).map(|(rows, error)| (rows.len(), error))
+}
+
+#[test]
+fn segments_of_g() {
+    let untouched = Segment {
+        group: 1,
+        first: 2,
+        last: 3,
+        value: 4,
+    };
+    let mut list = [untouched; SEGMENT_PLACES + 1];
+    let log = log_g();
+    let found: Vec<_> = pacer::segments(&log, Kind::SUM, &mut list)
+        .unwrap()
+        .iter()
+        .map(|s| (s.group, s.first, s.last, s.value))
+        .collect();
+    assert_eq!(
+        found,
+        [
+            (0, 0, 1, 100),
+            (0, 2, 3, 300),
+            (0, 4, 5, 200),
+            (0, 6, 6, 210),
+            (0, 9, 10, 50),
+            (1, 0, 0, 7),
+        ]
+    );
+    assert!(list[6..].iter().all(|place| *place == untouched));
+}
+
+#[test]
+fn limits_and_shares_of_g() {
+    let log = log_g();
+    let too_few = Refusal {
+        question: 10,
+        index: 0,
+    };
+    assert_eq!(error(Bound::Rows(2), &log), Err(too_few));
+    assert_eq!(error(Bound::Rows(3), &log), Ok((3, 40_087)));
+    assert_eq!(error(Bound::Rows(4), &log), Ok((4, 11_280)));
+    assert_eq!(error(Bound::Rows(5), &log), Ok((5, 67)));
+    assert_eq!(error(Bound::Rows(6), &log), Ok((6, 0)));
+    assert_eq!(error(Bound::Rows(64), &log), Ok((6, 0)));
+    assert_eq!(error(Bound::Share(281), &log), Ok((5, 67)));
+    assert_eq!(error(Bound::Share(282), &log), Ok((4, 11_280)));
+}
+
+#[test]
+fn small_cases() {
+    let frames = |loads: &[u16]| {
+        let records: Vec<Record> = (0u16..)
+            .zip(loads)
+            .map(|(frame, load)| record(0, frame, frame, *load))
+            .collect();
+        pacer::log(&records).unwrap()
+    };
+    assert_eq!(
+        reduce(Bound::Rows(2), &frames(&[0, 1, 0])),
+        Ok((vec![(0, 0, 2, 0)], 1))
+    );
+    assert_eq!(
+        reduce(Bound::Rows(2), &frames(&[0, 4, 8])),
+        Ok((vec![(0, 0, 1, 2), (0, 2, 2, 8)], 8))
+    );
+    assert_eq!(reduce(Bound::Rows(0), &[]), Ok((vec![], 0)));
+    let joined = pacer::log(&[record(0, 0, 3, 10), record(0, 4, 7, 10)]).unwrap();
+    assert_eq!(
+        reduce(Bound::Rows(64), &joined),
+        Ok((vec![(0, 0, 7, 10)], 0))
+    );
+}
+
+#[test]
+fn rows_and_refusals() {
+    let log = log_g();
+    let mut slot = [0; SLOT_BYTES];
+    pacer::query(sum(Bound::Rows(4)), &log, &mut slot).unwrap();
+    let profile = pacer::read(&slot).unwrap();
+    let mut rows = profile.into_iter();
+    assert_eq!(rows.len(), 4);
+    rows.next();
+    assert_eq!(rows.len(), 3);
+    assert_eq!(
+        rows.next(),
+        Some(Row {
+            group: 0,
+            first: 2,
+            last: 6,
+            value: 242
+        })
+    );
+    assert_eq!(rows.clone().count(), 2);
+    assert_eq!(profile.lookup(0, 8), Ok(None));
+    assert_eq!(profile.lookup(1, 0), Ok(Some(7)));
+
+    let short = pacer::query(sum(Bound::Rows(4)), &log, &mut slot[..767]);
+    assert_eq!(short.unwrap_err().question, 1);
+    let damaged = pacer::query(sum(Bound::Rows(4)), &log[..44], &mut slot);
+    assert_eq!(
+        damaged.unwrap_err().to_string(),
+        "question 4 got 'no': Is the log's length a multiple of 9?"
+    );
+    slot[34] = 0;
+    let refusal = pacer::read(&slot).unwrap_err();
+    assert_eq!(
+        refusal.to_string(),
+        "question 14 at index 2 got 'no': Row mark right?"
+    );
+}

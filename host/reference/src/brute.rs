@@ -1,0 +1,234 @@
+//! Demand 3 by trying every list of rows.
+//!
+//! Nothing here knows segments or blocks: a log is its covered frames with their values, a list
+//! of rows is any cutting of these frames, and a row's number is tried out.
+
+use crate::Stretch;
+
+/// A covered frame: group, frame and value.
+pub type Frame = (u8, u32, u32);
+
+/// Whether a list is fitting: every covered frame lies in exactly one row of its group, and no
+/// uncovered frame lies in any.
+pub fn fits(rows: &[Stretch], frames: &[Frame]) -> bool {
+    let held_once = frames.iter().all(|(group, frame, _)| {
+        rows.iter()
+            .filter(|row| row.contains(*group, *frame))
+            .count()
+            == 1
+    });
+    let all_covered = rows.iter().all(|row| {
+        (u32::from(row.first)..=u32::from(row.last)).all(|frame| {
+            frames
+                .iter()
+                .any(|(group, covered, _)| *group == row.group && *covered == frame)
+        })
+    });
+    held_once && all_covered && rows.iter().all(|row| row.first <= row.last)
+}
+
+/// The squared error of a fitting list, frame by frame.
+pub fn squared_error(rows: &[Stretch], frames: &[Frame]) -> u64 {
+    frames
+        .iter()
+        .map(|(group, frame, value)| {
+            let row = rows
+                .iter()
+                .find(|row| row.contains(*group, *frame))
+                .expect("a fitting list holds every covered frame");
+            u64::from(row.value.abs_diff(*value)).pow(2)
+        })
+        .sum()
+}
+
+/// Whether frames i and i + 1 may lie in one row.
+fn joined(frames: &[Frame], i: usize) -> bool {
+    let (one, next) = (frames[i], frames[i + 1]);
+    one.0 == next.0 && one.1 + 1 == next.1
+}
+
+/// The numbers tried for a row: all from one below the least value to one above the greatest,
+/// and some negative ones.
+fn candidates(row: &[Frame]) -> impl Iterator<Item = i64> {
+    let least = row.iter().map(|f| i64::from(f.2)).min().unwrap_or(0);
+    let greatest = row.iter().map(|f| i64::from(f.2)).max().unwrap_or(0);
+    let negative = [-1000, -2, -1].into_iter().filter(move |x| *x < least - 1);
+    negative.chain(least - 1..=greatest + 1)
+}
+
+/// The squared error of a row with a number.
+fn row_error(row: &[Frame], number: i64) -> u64 {
+    row.iter()
+        .map(|f| (i64::from(f.2) - number).pow(2) as u64)
+        .sum()
+}
+
+fn keep_least(place: &mut Option<u64>, error: u64) {
+    if place.is_none_or(|least| error < least) {
+        *place = Some(error);
+    }
+}
+
+/// The least error of the fitting lists of exactly k rows, at place k: every cutting with every
+/// combination of numbers. For very few frames.
+pub fn least_by_lists(frames: &[Frame]) -> Vec<Option<u64>> {
+    fn go(frames: &[Frame], start: usize, rows: usize, error: u64, least: &mut [Option<u64>]) {
+        if start == frames.len() {
+            keep_least(&mut least[rows], error);
+            return;
+        }
+        for end in start + 1..=frames.len() {
+            let row = &frames[start..end];
+            for number in candidates(row) {
+                go(frames, end, rows + 1, error + row_error(row, number), least);
+            }
+            if end < frames.len() && !joined(frames, end - 1) {
+                break;
+            }
+        }
+    }
+    let mut least = vec![None; frames.len() + 1];
+    go(frames, 0, 0, 0, &mut least);
+    least
+}
+
+/// The least error that a row of frames start to end (excluded) can have, over the candidates.
+fn row_table(frames: &[Frame]) -> Vec<Vec<Option<u64>>> {
+    let count = frames.len();
+    (0..count)
+        .map(|start| {
+            let mut row = vec![None; count + 1];
+            for end in start + 1..=count {
+                let part = &frames[start..end];
+                row[end] = candidates(part).map(|x| row_error(part, x)).min();
+                if end < count && !joined(frames, end - 1) {
+                    break;
+                }
+            }
+            row
+        })
+        .collect()
+}
+
+/// The same by every cutting; each row gets the best of its candidate numbers, since the errors
+/// of the rows add. For few frames.
+pub fn least_by_cuttings(frames: &[Frame]) -> Vec<Option<u64>> {
+    let count = frames.len();
+    let mut least = vec![None; count + 1];
+    if count == 0 {
+        least[0] = Some(0);
+        return least;
+    }
+    let rows = row_table(frames);
+    'cutting: for cuts in 0u32..1 << (count - 1) {
+        // Bit i of `cuts` says that a row ends after frame i; the last frame always ends one.
+        let ends = (1..=count).filter(|end| *end == count || cuts >> (end - 1) & 1 == 1);
+        let (mut start, mut parts, mut error) = (0, 0, 0);
+        for end in ends {
+            match rows[start][end] {
+                Some(cost) => error += cost,
+                None => continue 'cutting,
+            }
+            parts += 1;
+            start = end;
+        }
+        keep_least(&mut least[parts], error);
+    }
+    least
+}
+
+/// The same by a table over frames, for at most `limit` rows: for logs with more frames than can
+/// be cut in every way.
+pub fn least_by_table(frames: &[Frame], limit: usize) -> Vec<Option<u64>> {
+    let count = frames.len();
+    let rows = row_table(frames);
+    let mut reach: Vec<Option<u64>> = vec![None; count + 1];
+    reach[0] = Some(0);
+    let mut least = vec![reach[count]];
+    for _ in 1..=limit.min(count) {
+        let mut next = vec![None; count + 1];
+        for start in 0..count {
+            if let Some(front) = reach[start] {
+                for end in start + 1..=count {
+                    match rows[start][end] {
+                        Some(cost) => keep_least(&mut next[end], front + cost),
+                        None => break,
+                    }
+                }
+            }
+        }
+        reach = next;
+        least.push(reach[count]);
+    }
+    least
+}
+
+/// The paper's choice among all reductions of a few segments, each tried: the rows of the least
+/// error, then the fewest rows, then the latest last cut, and so on. With `exactly` only
+/// reductions of so many rows are tried, otherwise those of at most so many.
+pub fn best_cutting(segments: &[Stretch], rows: usize, exactly: bool) -> Option<Vec<Stretch>> {
+    let n = segments.len();
+    if n == 0 {
+        return Some(Vec::new());
+    }
+    let mut best: Option<(u64, Vec<usize>)> = None;
+    for cuts in 0u32..1 << (n - 1) {
+        // Where the blocks end, from the last one to the first.
+        let ends: Vec<usize> = (1..=n)
+            .rev()
+            .filter(|end| *end == n || cuts >> (end - 1) & 1 == 1)
+            .collect();
+        let allowed = if exactly {
+            ends.len() == rows
+        } else {
+            ends.len() <= rows
+        };
+        let across = (1..n).any(|end| {
+            !crate::adjacent(&segments[end - 1], &segments[end]) && !ends.contains(&end)
+        });
+        if !allowed || across {
+            continue;
+        }
+        let error = blocks(segments, &ends).map(crate::error_of).sum();
+        let better = match &best {
+            None => true,
+            Some((least, chosen)) => {
+                (error, ends.len()) < (*least, chosen.len())
+                    || ((error, ends.len()) == (*least, chosen.len()) && ends > *chosen)
+            }
+        };
+        if better {
+            best = Some((error, ends));
+        }
+    }
+    best.map(|(_, ends)| {
+        let mut rows: Vec<Stretch> = blocks(segments, &ends).map(crate::row_of).collect();
+        rows.reverse();
+        rows
+    })
+}
+
+/// The blocks that end at the given places, from the last to the first.
+fn blocks<'a>(
+    segments: &'a [Stretch],
+    ends: &'a [usize],
+) -> impl Iterator<Item = &'a [Stretch]> + 'a {
+    ends.iter().enumerate().map(|(place, end)| {
+        let start = ends.get(place + 1).copied().unwrap_or(0);
+        &segments[start..*end]
+    })
+}
+
+#[cfg(test)]
+mod tests {
+    use super::*;
+
+    #[test]
+    fn three_ways_agree() {
+        let frames: Vec<Frame> = vec![(0, 3, 2), (0, 4, 0), (0, 5, 1), (0, 7, 4), (1, 8, 4)];
+        let lists = least_by_lists(&frames);
+        assert_eq!(lists, [None, None, None, Some(2), Some(1), Some(0)]);
+        assert_eq!(lists, least_by_cuttings(&frames));
+        assert_eq!(lists, least_by_table(&frames, 64));
+    }
+}

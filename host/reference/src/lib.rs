@@ -1,0 +1,683 @@
+//! An independent implementation of load profiles, to compare the proved library with.
+//!
+//! It is written from the paper's words for clarity and shares no code with the library. Its
+//! means differ where they can: segments are found frame by frame, not from event to event; the
+//! error of a block is summed over its segments, not computed from totals; the reduction is a
+//! plain table over all cuts, with no early exit, and the cuts that the paper's scan weighs are
+//! counted beside it. [`brute`] goes further: it tries every list of rows for a small log.
+
+#![forbid(unsafe_code)]
+
+pub mod brute;
+
+/// The bound is a row limit.
+pub const ROWS: u8 = 0x52;
+/// The bound is an error share.
+pub const SHARE: u8 = 0x45;
+
+/// The first question that got 'no', and the index of the record or row.
+#[derive(Clone, Copy, Debug, PartialEq, Eq)]
+pub struct No {
+    pub question: u8,
+    pub index: usize,
+}
+
+/// Consecutive frames of one group, both ends included, and a number: a segment or a row.
+#[derive(Clone, Copy, Debug, PartialEq, Eq)]
+pub struct Stretch {
+    pub group: u8,
+    pub first: u16,
+    pub last: u16,
+    pub value: u32,
+}
+
+impl Stretch {
+    /// The number of frames.
+    pub fn length(&self) -> u64 {
+        u64::from(self.last) - u64::from(self.first) + 1
+    }
+
+    /// Whether the frame of the group lies in here.
+    pub fn contains(&self, group: u8, frame: u32) -> bool {
+        self.group == group && u32::from(self.first) <= frame && frame <= u32::from(self.last)
+    }
+}
+
+/// One record of a log, as its bytes say, right or wrong.
+#[derive(Clone, Copy, Debug, PartialEq, Eq)]
+pub struct Record {
+    pub mark: [u8; 2],
+    pub group: u8,
+    pub first: u16,
+    pub last: u16,
+    pub load: u16,
+}
+
+fn two(bytes: &[u8], at: usize) -> u16 {
+    u16::from_le_bytes([bytes[at], bytes[at + 1]])
+}
+
+/// The whole records at the start of a log.
+pub fn records(log: &[u8]) -> Vec<Record> {
+    log.chunks_exact(9)
+        .map(|bytes| Record {
+            mark: [bytes[0], bytes[1]],
+            group: bytes[2],
+            first: two(bytes, 3),
+            last: two(bytes, 5),
+            load: two(bytes, 7),
+        })
+        .collect()
+}
+
+// ---------------------------------------------------------------------------------------------
+// Questions
+
+/// A question's number, the index it concerns, and whether the answer is 'yes'.
+type Question = (u8, usize, bool);
+
+/// The first question that got 'no'.
+fn ask(questions: impl IntoIterator<Item = Question>) -> Result<(), No> {
+    match questions.into_iter().find(|(_, _, yes)| !yes) {
+        Some((question, index, _)) => Err(No { question, index }),
+        None => Ok(()),
+    }
+}
+
+/// Questions 4 to 9.
+fn log_questions(log: &[u8]) -> Vec<Question> {
+    let mut questions = vec![
+        (4, 0, log.len().is_multiple_of(9)),
+        (5, 0, log.len() / 9 <= 128),
+    ];
+    for (index, record) in records(log).iter().enumerate() {
+        questions.push((6, index, record.mark == [0x4C, 0x44]));
+        questions.push((7, index, record.group <= 7));
+        questions.push((8, index, record.first <= record.last));
+        questions.push((9, index, record.load <= 1000));
+    }
+    questions
+}
+
+/// Questions 1 and 11 to 17.
+fn slot_questions(slot: &[u8]) -> Vec<Question> {
+    let mut questions = vec![(1, 0, slot.len() >= 768)];
+    if slot.len() < 768 {
+        return questions;
+    }
+    let count = usize::from(slot[3]);
+    questions.push((11, 0, slot[..2] == [0x50, 0x48]));
+    questions.push((12, 0, slot[2] <= 3));
+    questions.push((13, 0, count <= 64));
+    if count > 64 {
+        return questions;
+    }
+    let rows: Vec<Stretch> = (0..count).map(|number| row(slot, number)).collect();
+    for (index, row) in rows.iter().enumerate() {
+        let at = 12 + 11 * index;
+        questions.push((14, index, slot[at..at + 2] == [0x50, 0x52]));
+        questions.push((
+            15,
+            index,
+            row.group <= 7 && row.first <= row.last && row.value <= 128_000,
+        ));
+        let ordered = match index.checked_sub(1).map(|previous| rows[previous]) {
+            None => true,
+            Some(previous) => {
+                row.group > previous.group
+                    || (row.group == previous.group && row.first > previous.last)
+            }
+        };
+        questions.push((16, index, ordered));
+    }
+    let after = 12 + 11 * count;
+    questions.push((17, 0, slot[after..768].iter().all(|byte| *byte == 0)));
+    questions
+}
+
+// ---------------------------------------------------------------------------------------------
+// Segments
+
+/// The value of a frame: the aggregate of the loads of the records that contain it, none if no
+/// record does. All records are of the frame's group.
+fn value_of(of_group: &[Record], kind: u8, frame: u32) -> Option<u32> {
+    let loads: Vec<u32> = of_group
+        .iter()
+        .filter(|record| u32::from(record.first) <= frame && frame <= u32::from(record.last))
+        .map(|record| u32::from(record.load))
+        .collect();
+    if loads.is_empty() {
+        return None;
+    }
+    match kind {
+        0 => Some(loads.iter().sum()),
+        1 => Some(loads.len() as u32),
+        2 => loads.iter().copied().min(),
+        _ => loads.iter().copied().max(),
+    }
+}
+
+/// Every covered frame with its value, by group and then by frame.
+pub fn covered(records: &[Record], kind: u8) -> Vec<(u8, u32, u32)> {
+    let mut frames = Vec::new();
+    for group in 0..8 {
+        let of_group: Vec<Record> = records
+            .iter()
+            .copied()
+            .filter(|record| record.group == group)
+            .collect();
+        let first = of_group.iter().map(|record| u32::from(record.first)).min();
+        let last = of_group.iter().map(|record| u32::from(record.last)).max();
+        if let (Some(first), Some(last)) = (first, last) {
+            for frame in first..=last {
+                if let Some(value) = value_of(&of_group, kind, frame) {
+                    frames.push((group, frame, value));
+                }
+            }
+        }
+    }
+    frames
+}
+
+/// The segments of a log in order: the covered frames, joined where they are consecutive and
+/// equal in value.
+pub fn segments_of(records: &[Record], kind: u8) -> Vec<Stretch> {
+    let mut segments: Vec<Stretch> = Vec::new();
+    for (group, frame, value) in covered(records, kind) {
+        match segments.last_mut() {
+            Some(open)
+                if open.group == group
+                    && u32::from(open.last) + 1 == frame
+                    && open.value == value =>
+            {
+                open.last = frame as u16;
+            }
+            _ => segments.push(Stretch {
+                group,
+                first: frame as u16,
+                last: frame as u16,
+                value,
+            }),
+        }
+    }
+    segments
+}
+
+/// The segment call: the segments, or the first question that got 'no'.
+pub fn segments(log: &[u8], kind: u8, places: usize) -> Result<Vec<Stretch>, No> {
+    ask([(1, 0, places >= 255), (2, 0, kind <= 3)])?;
+    ask(log_questions(log))?;
+    Ok(segments_of(&records(log), kind))
+}
+
+// ---------------------------------------------------------------------------------------------
+// Rows and their error
+
+/// Whether the second of two neighbours in the list begins where the first one ends.
+fn adjacent(one: &Stretch, next: &Stretch) -> bool {
+    one.group == next.group && u32::from(one.last) + 1 == u32::from(next.first)
+}
+
+/// The count of runs.
+pub fn runs(segments: &[Stretch]) -> usize {
+    let gaps = segments
+        .windows(2)
+        .filter(|pair| !adjacent(&pair[0], &pair[1]))
+        .count();
+    if segments.is_empty() {
+        0
+    } else {
+        gaps + 1
+    }
+}
+
+/// The whole number nearest to the mean of a block, the lower one at a half.
+fn nearest(block: &[Stretch]) -> u64 {
+    let length: u64 = block.iter().map(Stretch::length).sum();
+    let total: u64 = block.iter().map(|s| s.length() * u64::from(s.value)).sum();
+    let below = total / length;
+    let rest = total - below * length;
+    if 2 * rest > length {
+        below + 1
+    } else {
+        below
+    }
+}
+
+/// The error of a block: length times squared difference to the row value, summed.
+fn error_of(block: &[Stretch]) -> u64 {
+    let number = nearest(block);
+    block
+        .iter()
+        .map(|s| s.length() * u64::from(s.value).abs_diff(number).pow(2))
+        .sum()
+}
+
+/// The row of a block.
+fn row_of(block: &[Stretch]) -> Stretch {
+    Stretch {
+        group: block[0].group,
+        first: block[0].first,
+        last: block[block.len() - 1].last,
+        value: nearest(block) as u32,
+    }
+}
+
+// ---------------------------------------------------------------------------------------------
+// The reduction
+
+/// The least errors E(k, i) of the first i segments in exactly k rows, for k from 1.
+pub struct Table<'a> {
+    segments: &'a [Stretch],
+    /// The last gap below i, 0 if there is none, at place i.
+    gap: Vec<usize>,
+    /// The error of block j + 1 to i, none if a gap lies within, at places j and i.
+    block: Vec<Vec<Option<u64>>>,
+    /// E(k, i) at places k − 1 and i.
+    least: Vec<Vec<Option<u64>>>,
+    /// The latest cut that gives E(k, i), at places k − 1 and i.
+    cut: Vec<Vec<usize>>,
+    /// The cuts weighed for k rows, at place k − 1.
+    weighed: Vec<u64>,
+}
+
+impl<'a> Table<'a> {
+    /// A table with no row yet.
+    pub fn new(segments: &'a [Stretch]) -> Self {
+        let n = segments.len();
+        let mut gap = vec![0; n + 1];
+        for i in 2..=n {
+            // A gap below i is a j < i whose segment is not adjacent to the next one.
+            gap[i] = if adjacent(&segments[i - 2], &segments[i - 1]) {
+                gap[i - 1]
+            } else {
+                i - 1
+            };
+        }
+        let block = (0..n)
+            .map(|j| {
+                (0..=n)
+                    .map(|i| (i > j && gap[i] <= j).then(|| error_of(&segments[j..i])))
+                    .collect()
+            })
+            .collect();
+        Table {
+            segments,
+            gap,
+            block,
+            least: Vec::new(),
+            cut: Vec::new(),
+            weighed: Vec::new(),
+        }
+    }
+
+    /// The count of rows tried so far.
+    pub fn rows(&self) -> usize {
+        self.least.len()
+    }
+
+    /// The least error of all segments in exactly k rows; k from 1 to the rows tried.
+    pub fn error(&self, k: usize) -> Option<u64> {
+        self.least[k - 1][self.segments.len()]
+    }
+
+    /// The cuts weighed for all rows tried.
+    pub fn weighed(&self) -> u64 {
+        self.weighed.iter().sum()
+    }
+
+    /// Tries one row more.
+    pub fn grow(&mut self) {
+        let n = self.segments.len();
+        let k = self.rows() + 1;
+        let mut least = vec![None; n + 1];
+        let mut cut = vec![0; n + 1];
+        let mut weighed = 0;
+        for i in k..=n {
+            if k == 1 {
+                least[i] = self.block[0][i];
+                continue;
+            }
+            let before = &self.least[k - 2];
+            // All cuts, in rising order; of equal totals the latest is kept.
+            for (j, front) in before.iter().enumerate().take(i).skip(k - 1) {
+                if let (Some(front), Some(block)) = (*front, self.block[j][i]) {
+                    if least[i].is_none_or(|best| front + block <= best) {
+                        least[i] = Some(front + block);
+                        cut[i] = j;
+                    }
+                }
+            }
+            weighed += self.scan_length(k, i);
+        }
+        self.least.push(least);
+        self.cut.push(cut);
+        self.weighed.push(weighed);
+    }
+
+    /// The number of candidates that the paper's scan tries for E(k, i), k from 2.
+    fn scan_length(&self, k: usize, i: usize) -> u64 {
+        let lowest = self.gap[i].max(k - 1);
+        let mut best: Option<u64> = None;
+        let mut tried = 0;
+        for j in (lowest..i).rev() {
+            tried += 1;
+            let block = self.block[j][i].expect("no gap at or above the lowest candidate");
+            if let Some(front) = self.least[k - 2][j] {
+                best = Some(best.map_or(front + block, |best| best.min(front + block)));
+            }
+            if best.is_some_and(|best| block > best) {
+                break;
+            }
+        }
+        tried
+    }
+
+    /// The rows of the best reduction to exactly k rows, its cuts read back from the last row.
+    fn read_back(&self, k: usize) -> Vec<Stretch> {
+        let mut rows = Vec::new();
+        let mut end = self.segments.len();
+        for k in (1..=k).rev() {
+            let start = self.cut[k - 1][end];
+            rows.push(row_of(&self.segments[start..end]));
+            end = start;
+        }
+        rows.reverse();
+        rows
+    }
+}
+
+/// A query's answer.
+#[derive(Clone, Debug, PartialEq, Eq)]
+pub struct Reduction {
+    pub rows: Vec<Stretch>,
+    pub error: u64,
+    pub weighed: u64,
+    /// The rows tried, K in the paper's bound of the cuts weighed.
+    pub tried: usize,
+}
+
+/// The best reduction of some segments under a row limit or a share, none if there are too few
+/// rows for it.
+pub fn reduce(segments: &[Stretch], rule: u8, bound: u16) -> Option<Reduction> {
+    let n = segments.len();
+    let m = runs(segments);
+    let bound = usize::from(bound);
+    if rule == ROWS && bound < m {
+        return None;
+    }
+    if n == 0 {
+        return Some(Reduction {
+            rows: Vec::new(),
+            error: 0,
+            weighed: 0,
+            tried: 0,
+        });
+    }
+    let mut table = Table::new(segments);
+    let chosen = if rule == ROWS {
+        while table.rows() < bound.min(n) {
+            table.grow();
+        }
+        (m..=table.rows()).min_by_key(|k| (table.error(*k), *k))?
+    } else {
+        let meets = |table: &Table| {
+            let k = table.rows();
+            let error = |k| u128::from(table.error(k).expect("m or more rows have an error"));
+            k >= m && error(k) * 1000 <= bound as u128 * error(m)
+        };
+        loop {
+            if table.rows() == n.min(64) {
+                return None;
+            }
+            table.grow();
+            if meets(&table) {
+                break table.rows();
+            }
+        }
+    };
+    Some(Reduction {
+        rows: table.read_back(chosen),
+        error: table.error(chosen)?,
+        weighed: table.weighed(),
+        tried: table.rows(),
+    })
+}
+
+/// The query call: the reduction, or the first question that got 'no'.
+pub fn query(
+    kind: u8,
+    rule: u8,
+    bound: u16,
+    log: &[u8],
+    slot_length: usize,
+) -> Result<Reduction, No> {
+    let bounded = (rule == ROWS && bound <= 64) || (rule == SHARE && bound <= 1000);
+    ask([
+        (1, 0, slot_length >= 768),
+        (2, 0, kind <= 3),
+        (3, 0, bounded),
+    ])?;
+    ask(log_questions(log))?;
+    reduce(&segments_of(&records(log), kind), rule, bound).ok_or(No {
+        question: 10,
+        index: 0,
+    })
+}
+
+// ---------------------------------------------------------------------------------------------
+// Slot, reader, walk, lookup, writer
+
+/// The 768 bytes of a slot.
+pub fn layout(kind: u8, error: u64, rows: &[Stretch]) -> Vec<u8> {
+    let mut bytes = vec![0x50, 0x48, kind, rows.len() as u8];
+    bytes.extend(error.to_le_bytes());
+    for row in rows {
+        bytes.extend([0x50, 0x52, row.group]);
+        bytes.extend(row.first.to_le_bytes());
+        bytes.extend(row.last.to_le_bytes());
+        bytes.extend(row.value.to_le_bytes());
+    }
+    bytes.resize(768, 0);
+    bytes
+}
+
+/// The fields of a row in a slot, right or wrong.
+fn row(slot: &[u8], number: usize) -> Stretch {
+    let bytes = &slot[12 + 11 * number..][..11];
+    Stretch {
+        group: bytes[2],
+        first: two(bytes, 3),
+        last: two(bytes, 5),
+        value: u32::from(two(bytes, 7)) + 65_536 * u32::from(two(bytes, 9)),
+    }
+}
+
+/// What the reader gives.
+#[derive(Clone, Debug, PartialEq, Eq)]
+pub struct Contents {
+    pub kind: u8,
+    pub error: u64,
+    pub rows: Vec<Stretch>,
+}
+
+/// Reads a slot.
+pub fn read(slot: &[u8]) -> Result<Contents, No> {
+    ask(slot_questions(slot))?;
+    let error = (0..8).map(|i| u64::from(slot[4 + i]) << (8 * i)).sum();
+    Ok(Contents {
+        kind: slot[2],
+        error,
+        rows: (0..usize::from(slot[3])).map(|n| row(slot, n)).collect(),
+    })
+}
+
+/// The row with a number, none at the end.
+pub fn row_at(slot: &[u8], number: usize) -> Result<Option<Stretch>, No> {
+    Ok(read(slot)?.rows.get(number).copied())
+}
+
+/// The value of the row of a group that contains a frame, none if it is uncovered.
+pub fn lookup(slot: &[u8], group: u8, frame: u16) -> Result<Option<u32>, No> {
+    let contents = read(slot)?;
+    ask([(7, 0, group <= 7)])?;
+    Ok(contents
+        .rows
+        .iter()
+        .find(|row| row.contains(group, u32::from(frame)))
+        .map(|row| row.value))
+}
+
+/// The 9 bytes of a record, for a buffer of some length.
+pub fn write_record(
+    group: u8,
+    first: u16,
+    last: u16,
+    load: u16,
+    length: usize,
+) -> Result<Vec<u8>, No> {
+    ask([
+        (1, 0, length >= 9),
+        (7, 0, group <= 7),
+        (8, 0, first <= last),
+        (9, 0, load <= 1000),
+    ])?;
+    let mut bytes = vec![0x4C, 0x44, group];
+    for number in [first, last, load] {
+        bytes.extend(number.to_le_bytes());
+    }
+    Ok(bytes)
+}
+
+#[cfg(test)]
+mod tests {
+    use super::*;
+
+    fn log(records: &[(u8, u16, u16, u16)]) -> Vec<u8> {
+        records
+            .iter()
+            .flat_map(|(group, first, last, load)| {
+                write_record(*group, *first, *last, *load, 9).unwrap()
+            })
+            .collect()
+    }
+
+    fn log_g() -> Vec<u8> {
+        log(&[
+            (0, 0, 3, 100),
+            (0, 2, 5, 200),
+            (0, 6, 6, 210),
+            (0, 9, 10, 50),
+            (1, 0, 0, 7),
+        ])
+    }
+
+    fn outcome(rule: u8, bound: u16, log: &[u8]) -> Result<(usize, u64), u8> {
+        query(0, rule, bound, log, 768)
+            .map(|answer| (answer.rows.len(), answer.error))
+            .map_err(|no| no.question)
+    }
+
+    #[test]
+    fn log_g_played_through() {
+        let log = log_g();
+        assert_eq!(segments(&log, 0, 255).unwrap().len(), 6);
+        assert_eq!(outcome(ROWS, 2, &log), Err(10));
+        assert_eq!(outcome(ROWS, 3, &log), Ok((3, 40_087)));
+        assert_eq!(outcome(ROWS, 4, &log), Ok((4, 11_280)));
+        assert_eq!(outcome(ROWS, 5, &log), Ok((5, 67)));
+        assert_eq!(outcome(ROWS, 6, &log), Ok((6, 0)));
+        assert_eq!(outcome(ROWS, 64, &log), Ok((6, 0)));
+        assert_eq!(outcome(SHARE, 281, &log), Ok((5, 67)));
+        assert_eq!(outcome(SHARE, 282, &log), Ok((4, 11_280)));
+        assert_eq!(query(0, ROWS, 4, &log, 768).unwrap().weighed, 16);
+    }
+
+    #[test]
+    fn small_cases() {
+        let frames = |loads: &[u16]| {
+            let records: Vec<_> = (0u16..).zip(loads).map(|(f, l)| (0, f, f, *l)).collect();
+            log(&records)
+        };
+        assert_eq!(outcome(ROWS, 2, &frames(&[0, 1, 0])), Ok((1, 1)));
+        assert_eq!(outcome(ROWS, 2, &frames(&[0, 4, 8])), Ok((2, 8)));
+        assert_eq!(outcome(ROWS, 1, &frames(&[0, 1, 1])), Ok((1, 1)));
+        assert_eq!(outcome(ROWS, 0, &[]), Ok((0, 0)));
+        let early = query(0, ROWS, 2, &frames(&[0, 1, 2, 100]), 768).unwrap();
+        assert_eq!(early.weighed, 5);
+    }
+
+    /// The segments of the first source's running example, and its Figures 4 and 5.
+    #[test]
+    fn running_example() {
+        let log = log(&[
+            (0, 1, 2, 800),
+            (0, 3, 3, 600),
+            (0, 4, 4, 500),
+            (0, 5, 6, 350),
+            (0, 7, 7, 300),
+            (1, 4, 5, 500),
+            (1, 7, 8, 500),
+        ]);
+        let segments = segments(&log, 0, 255).unwrap();
+        let mut table = Table::new(&segments);
+        for _ in 0..4 {
+            table.grow();
+        }
+        // The published errors belong to fractional means and are rounded down; with whole
+        // numbers an error is a little larger, by at most a quarter per frame.
+        let published = [
+            [
+                Some(0),
+                Some(26_666),
+                Some(67_500),
+                Some(208_333),
+                Some(269_285),
+                None,
+                None,
+            ],
+            [
+                None,
+                Some(0),
+                Some(5_000),
+                Some(41_666),
+                Some(49_166),
+                Some(269_285),
+                None,
+            ],
+            [
+                None,
+                None,
+                Some(0),
+                Some(5_000),
+                Some(6_666),
+                Some(49_166),
+                Some(269_285),
+            ],
+            [
+                None,
+                None,
+                None,
+                Some(0),
+                Some(1_666),
+                Some(6_666),
+                Some(49_166),
+            ],
+        ];
+        for (k, row) in published.iter().enumerate() {
+            for (i, expected) in row.iter().enumerate() {
+                let found: Option<u64> = table.least[k][i + 1];
+                assert_eq!(found.is_some(), expected.is_some());
+                if let (Some(found), Some(expected)) = (found, expected) {
+                    assert!(
+                        (*expected..=expected + 3).contains(&found),
+                        "{found} {expected}"
+                    );
+                }
+            }
+        }
+        assert_eq!(table.cut[3][7], 6);
+        assert_eq!(table.cut[2][6], 5);
+        assert_eq!(table.cut[1][5], 2);
+    }
+}

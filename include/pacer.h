@@ -1,0 +1,176 @@
+/* Load profiles for the pacer: the C interface.
+ *
+ * A log is 0 to 128 records of 9 bytes. A query finds the log's constant segments, merges them
+ * to few rows and writes the rows into a slot of 768 bytes, which the other calls read.
+ *
+ * Every call asks its questions in the order given at the call. The answer's field `question` is
+ * 0 if all got 'yes'. Otherwise it is the number of the first question that got 'no', `index` is
+ * the index from 0 of the record or row concerned for questions 6 to 9 and 14 to 16 (0 for the
+ * others), and nothing that was lent is changed. The questions are:
+ *
+ *    1  Is the lent buffer or list long enough (slot 768, segments 255, record 9)?
+ *    2  Is the kind 0 to 3?
+ *    3  Is the row limit at most 64, or the share at most 1,000?
+ *    4  Is the log's length a multiple of 9?
+ *    5  Has it at most 128 records?
+ *    6  Does the record begin with its mark?
+ *    7  Is the group 0 to 7?
+ *    8  Is first at most last?
+ *    9  Is the load at most 1,000?
+ *   10  Is the row limit at least the count of runs; with a share, do 64 rows or fewer meet it?
+ *   11  Header mark right?
+ *   12  Slot's kind 0 to 3?
+ *   13  Row count at most 64?
+ *   14  Row mark right?
+ *   15  Row's group 0 to 7, first at most last, value at most 128,000?
+ *   16  Is its group above the previous row's, or equal with first above the previous last?
+ *   17  Are all bytes after the last row, to 768, zero?
+ *
+ * The questions of one record or row come before the next one's.
+ *
+ * A pointer must point to as many bytes or places as the length beside it says; with the length
+ * 0 it is not read, but it must not be null. Two buffers of one call must not overlap. No call
+ * keeps a pointer, allocates, or changes anything but what is lent to it, so calls on different
+ * buffers may run at the same time.
+ */
+#ifndef PACER_H
+#define PACER_H
+
+#include <stddef.h>
+#include <stdint.h>
+
+#ifdef __cplusplus
+extern "C" {
+#endif
+
+/* Lengths, in bytes or places. */
+enum {
+    PACER_RECORD_BYTES = 9,
+    PACER_SLOT_BYTES = 768,
+    PACER_SEGMENT_PLACES = 255
+};
+
+/* What a frame's value is, over the records that contain it. */
+enum {
+    PACER_SUM = 0,      /* sum of the loads */
+    PACER_COUNT = 1,    /* count of records */
+    PACER_LEAST = 2,    /* least load */
+    PACER_GREATEST = 3  /* greatest load */
+};
+
+/* What the bound of a query is. */
+enum {
+    PACER_ROWS = 0x52,  /* a row limit, 0 to 64 */
+    PACER_SHARE = 0x45  /* an error share, 0 to 1,000 thousandths */
+};
+
+struct pacer_record_answer {
+    uint8_t question;
+    size_t index;
+};
+
+struct pacer_segments_answer {
+    uint8_t question;
+    size_t index;
+    size_t count;       /* segments written; 0 in a refusal */
+};
+
+struct pacer_query_answer {
+    uint8_t question;
+    size_t index;
+    size_t rows;        /* rows written; 0 in a refusal */
+    uint64_t error;     /* squared error of the rows; 0 in a refusal */
+    uint64_t weighed;   /* cuts weighed; 0 in a refusal */
+};
+
+struct pacer_read_answer {
+    uint8_t question;
+    size_t index;
+    uint8_t kind;       /* 0 in a refusal, as rows and error */
+    size_t rows;
+    uint64_t error;
+};
+
+struct pacer_step_answer {
+    uint8_t question;
+    size_t index;
+    uint8_t found;      /* 1: a row; 0: the end, or a refusal */
+    uint8_t group;      /* the row's fields; all 0 if there is no row */
+    uint16_t first;
+    uint16_t last;
+    uint32_t value;
+    size_t next;        /* the number after a row; at the end and in a refusal the number asked for */
+};
+
+struct pacer_lookup_answer {
+    uint8_t question;
+    size_t index;
+    uint8_t covered;    /* 1: a row of the group contains the frame */
+    uint32_t value;     /* that row's value; 0 if there is none */
+};
+
+/* A longest stretch of covered frames of one group with equal value; both frames included. */
+struct pacer_segment {
+    uint8_t group;
+    uint16_t first;
+    uint16_t last;
+    uint32_t value;
+};
+
+/* Writes one log record.
+ * Asks 1 (9 bytes), 7, 8, 9, in this order; the index is always 0.
+ * Accepted: the first 9 bytes of the buffer are the record, the others keep their content.
+ * Refused: the buffer is unchanged.
+ */
+struct pacer_record_answer pacer_write_record(uint8_t group, uint16_t first, uint16_t last,
+                                              uint16_t load, uint8_t *buffer, size_t length);
+
+/* Reduces a log to the rows that a query asks for and writes them into a slot.
+ * `rule` says whether `bound` is a row limit (PACER_ROWS) or a share (PACER_SHARE); any other
+ * rule is question 3's 'no'.
+ * Asks 1 (768 bytes of slot), 2, 3, 4, 5, then 6 to 9 for record after record, then 10.
+ * Accepted: the first 768 bytes of the slot are header, rows and zeros; the others keep their
+ * content. The answer gives the count of rows, their error and the number of cuts weighed.
+ * Refused: the slot is unchanged; rows, error and weighed are 0.
+ * `log` and `slot` must not overlap.
+ */
+struct pacer_query_answer pacer_query(uint8_t kind, uint8_t rule, uint16_t bound,
+                                      const uint8_t *log, size_t log_length,
+                                      uint8_t *slot, size_t slot_length);
+
+/* Lists a log's segments, by group and then by first frame.
+ * Asks 1 (255 places), 2, 4, 5, then 6 to 9 for record after record.
+ * Accepted: the first `count` places hold the segments, the others keep their content.
+ * Refused: the list is unchanged; count is 0.
+ * `log` and `list` must not overlap.
+ */
+struct pacer_segments_answer pacer_segments(const uint8_t *log, size_t log_length, uint8_t kind,
+                                            struct pacer_segment *list, size_t places);
+
+/* Reads a slot's kind, error and count of rows. Every error number is accepted.
+ * Asks 1 (768 bytes), 11, 12, 13, then 14 to 16 for row after row, then 17.
+ * Writes nothing. Refused: kind, rows and error are 0.
+ */
+struct pacer_read_answer pacer_read(const uint8_t *slot, size_t length);
+
+/* Gives the row with a number, from 0. To walk over a slot, begin at 0 and go on with `next`
+ * while `found` is 1.
+ * Asks what pacer_read asks, at every step. A number not below the count of rows gives the end:
+ * found is 0, and `next` is the number asked for.
+ * Writes nothing. Refused: found and the row's fields are 0, and `next` is the number asked for.
+ */
+struct pacer_step_answer pacer_row_at(const uint8_t *slot, size_t length, size_t number);
+
+/* Gives the value of the row of a group that contains a frame.
+ * Asks what pacer_read asks, and then 7 of the group asked for, with index 0.
+ * Writes nothing. If no row of that group contains the frame, and if refused, covered and value
+ * are 0.
+ */
+struct pacer_lookup_answer pacer_lookup(const uint8_t *slot, size_t length, uint8_t group,
+                                        uint16_t frame);
+
+#ifdef __cplusplus
+}
+#endif
+
+#endif

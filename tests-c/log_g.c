@@ -1,0 +1,307 @@
+/* Log G through the C interface: write_record, segments, query, read, row_at and lookup.
+ *
+ * Every answer is checked against the numbers that the paper prints for log G, and every byte
+ * lent against the paper's layout. Prints one line, `c interface: ok`; with any difference it
+ * prints each of them and ends with status 1.
+ *
+ * From the repository's root, with the archive in target/staticlib:
+ *
+ *   gcc -std=c11 -Wall -Wextra -Werror -Iinclude tests-c/log_g.c \
+ *       target/staticlib/libcapi.a -o target/log_g && target/log_g
+ */
+#include <stdio.h>
+#include <string.h>
+
+#include "pacer.h"
+
+static int differences = 0;
+
+/* Compares two numbers; says where they differ. */
+static void same_at(int line, const char *what, unsigned long long found,
+                    unsigned long long expected)
+{
+    if (found != expected) {
+        printf("line %d: %s is %llu, expected %llu\n", line, what, found, expected);
+        differences++;
+    }
+}
+#define SAME(found, expected) \
+    same_at(__LINE__, #found, (unsigned long long)(found), (unsigned long long)(expected))
+
+/* Compares some bytes; says where the first difference is. */
+static void bytes_at(int line, const char *what, const uint8_t *found, const uint8_t *expected,
+                     size_t length)
+{
+    for (size_t i = 0; i < length; i++) {
+        if (found[i] != expected[i]) {
+            printf("line %d: byte %zu of %s is %02x, expected %02x\n", line, i, what, found[i],
+                   expected[i]);
+            differences++;
+            return;
+        }
+    }
+}
+#define BYTES(found, expected, length) bytes_at(__LINE__, #found, found, expected, length)
+
+/* Log G: group, first, last, load. */
+static const uint16_t log_g[5][4] = {
+    {0, 0, 3, 100}, {0, 2, 5, 200}, {0, 6, 6, 210}, {0, 9, 10, 50}, {1, 0, 0, 7},
+};
+
+/* The segments of G, kind 0, and the rows of G for c = 4: group, first, last, value. */
+static const struct pacer_segment segments_g[6] = {
+    {0, 0, 1, 100}, {0, 2, 3, 300}, {0, 4, 5, 200}, {0, 6, 6, 210}, {0, 9, 10, 50}, {1, 0, 0, 7},
+};
+static const struct pacer_segment rows_g[4] = {
+    {0, 0, 1, 100}, {0, 2, 6, 242}, {0, 9, 10, 50}, {1, 0, 0, 7},
+};
+
+/* The slot's bytes for c = 4, from the layout: header, four rows, zeros. 11,280 is 2C10. */
+static const uint8_t slot_g[PACER_SLOT_BYTES] = {
+    0x50, 0x48, 0x00, 0x04, 0x10, 0x2C, 0x00, 0x00, 0x00, 0x00, 0x00, 0x00,
+    0x50, 0x52, 0x00, 0x00, 0x00, 0x01, 0x00, 0x64, 0x00, 0x00, 0x00,
+    0x50, 0x52, 0x00, 0x02, 0x00, 0x06, 0x00, 0xF2, 0x00, 0x00, 0x00,
+    0x50, 0x52, 0x00, 0x09, 0x00, 0x0A, 0x00, 0x32, 0x00, 0x00, 0x00,
+    0x50, 0x52, 0x01, 0x00, 0x00, 0x00, 0x00, 0x07, 0x00, 0x00, 0x00,
+};
+
+/* Fills a buffer with bytes that no call writes there by chance. */
+static void fill(uint8_t *buffer, size_t length)
+{
+    for (size_t i = 0; i < length; i++)
+        buffer[i] = (uint8_t)(0xA5 ^ (i * 7));
+}
+
+static void test_write_record(uint8_t *log)
+{
+    static const uint8_t first_record[9] = {0x4C, 0x44, 0x00, 0x00, 0x00, 0x03, 0x00, 0x64, 0x00};
+    uint8_t buffer[12], before[12];
+
+    for (size_t i = 0; i < 5; i++) {
+        struct pacer_record_answer a =
+            pacer_write_record((uint8_t)log_g[i][0], log_g[i][1], log_g[i][2], log_g[i][3],
+                               log + 9 * i, 9);
+        SAME(a.question, 0);
+        SAME(a.index, 0);
+    }
+    BYTES(log, first_record, 9);
+
+    /* Bytes past the ninth keep their content. */
+    fill(before, sizeof before);
+    memcpy(buffer, before, sizeof buffer);
+    SAME(pacer_write_record(0, 0, 3, 100, buffer, sizeof buffer).question, 0);
+    BYTES(buffer, first_record, 9);
+    BYTES(buffer + 9, before + 9, 3);
+
+    /* The questions in order, and an unchanged buffer. */
+    memcpy(buffer, before, sizeof buffer);
+    SAME(pacer_write_record(8, 1, 0, 1001, buffer, 8).question, 1);
+    SAME(pacer_write_record(8, 1, 0, 1001, buffer, 9).question, 7);
+    SAME(pacer_write_record(7, 1, 0, 1001, buffer, 9).question, 8);
+    SAME(pacer_write_record(7, 0, 0, 1001, buffer, 9).question, 9);
+    SAME(pacer_write_record(7, 0, 0, 1001, buffer, 9).index, 0);
+    BYTES(buffer, before, sizeof buffer);
+    SAME(pacer_write_record(7, 65535, 65535, 1000, buffer, 9).question, 0);
+}
+
+static void test_segments(const uint8_t *log)
+{
+    static struct pacer_segment list[PACER_SEGMENT_PLACES + 1];
+    const size_t places = sizeof list / sizeof list[0];
+
+    for (size_t i = 0; i < places; i++)
+        list[i] = (struct pacer_segment){9, 10, 11, 12};
+    SAME(pacer_segments(log, 45, PACER_SUM, list, 254).question, 1);
+    SAME(pacer_segments(log, 45, 4, list, places).question, 2);
+    SAME(list[0].group, 9);
+
+    struct pacer_segments_answer a = pacer_segments(log, 45, PACER_SUM, list, places);
+    SAME(a.question, 0);
+    SAME(a.index, 0);
+    SAME(a.count, 6);
+    for (size_t i = 0; i < places; i++) {
+        const struct pacer_segment expected =
+            i < 6 ? segments_g[i] : (struct pacer_segment){9, 10, 11, 12};
+        SAME(list[i].group, expected.group);
+        SAME(list[i].first, expected.first);
+        SAME(list[i].last, expected.last);
+        SAME(list[i].value, expected.value);
+    }
+}
+
+static void test_query(const uint8_t *log, uint8_t *slot, size_t length)
+{
+    /* Limits and shares of G with their rows and errors. */
+    static const struct {
+        uint8_t rule;
+        uint16_t bound;
+        size_t rows;
+        uint64_t error;
+    } cases[] = {
+        {PACER_ROWS, 3, 3, 40087},   {PACER_ROWS, 4, 4, 11280},   {PACER_ROWS, 5, 5, 67},
+        {PACER_ROWS, 6, 6, 0},       {PACER_ROWS, 64, 6, 0},      {PACER_SHARE, 281, 5, 67},
+        {PACER_SHARE, 282, 4, 11280},
+    };
+    uint8_t before[PACER_SLOT_BYTES + 32];
+    struct pacer_query_answer a;
+
+    for (size_t i = 0; i < sizeof cases / sizeof cases[0]; i++) {
+        a = pacer_query(PACER_SUM, cases[i].rule, cases[i].bound, log, 45, slot, length);
+        SAME(a.question, 0);
+        SAME(a.index, 0);
+        SAME(a.rows, cases[i].rows);
+        SAME(a.error, cases[i].error);
+    }
+
+    /* Refusals leave the slot unchanged. */
+    fill(before, sizeof before);
+    memcpy(slot, before, length);
+    SAME(pacer_query(4, 0, 65, log, 44, slot, 767).question, 1);
+    SAME(pacer_query(4, 0, 65, log, 44, slot, length).question, 2);
+    SAME(pacer_query(0, 0, 4, log, 44, slot, length).question, 3);
+    SAME(pacer_query(0, PACER_ROWS, 65, log, 44, slot, length).question, 3);
+    SAME(pacer_query(0, PACER_SHARE, 1001, log, 44, slot, length).question, 3);
+    SAME(pacer_query(0, PACER_ROWS, 64, log, 44, slot, length).question, 4);
+    a = pacer_query(0, PACER_ROWS, 2, log, 45, slot, length);
+    SAME(a.question, 10);
+    SAME(a.index, 0);
+    SAME(a.rows, 0);
+    SAME(a.error, 0);
+    SAME(a.weighed, 0);
+    BYTES(slot, before, length);
+
+    /* A damaged third record: the index says which. */
+    uint8_t damaged[45];
+    memcpy(damaged, log, 45);
+    damaged[2 * 9 + 2] = 8;
+    a = pacer_query(0, PACER_ROWS, 4, damaged, 45, slot, length);
+    SAME(a.question, 7);
+    SAME(a.index, 2);
+    BYTES(slot, before, length);
+
+    /* The empty log with c = 0. */
+    a = pacer_query(0, PACER_ROWS, 0, log, 0, slot, length);
+    SAME(a.question, 0);
+    SAME(a.rows, 0);
+    SAME(a.error, 0);
+    SAME(a.weighed, 0);
+
+    /* The worked case: c = 4, with the cuts weighed and every byte of the slot. */
+    memcpy(slot, before, length);
+    a = pacer_query(PACER_SUM, PACER_ROWS, 4, log, 45, slot, length);
+    SAME(a.question, 0);
+    SAME(a.index, 0);
+    SAME(a.rows, 4);
+    SAME(a.error, 11280);
+    SAME(a.weighed, 16);
+    BYTES(slot, slot_g, PACER_SLOT_BYTES);
+    BYTES(slot + PACER_SLOT_BYTES, before + PACER_SLOT_BYTES, length - PACER_SLOT_BYTES);
+}
+
+static void test_read(uint8_t *slot, size_t length)
+{
+    struct pacer_read_answer a = pacer_read(slot, length);
+    SAME(a.question, 0);
+    SAME(a.index, 0);
+    SAME(a.kind, 0);
+    SAME(a.rows, 4);
+    SAME(a.error, 11280);
+    SAME(pacer_read(slot, 767).question, 1);
+
+    /* A damaged byte at a time, and the question that it fails. */
+    static const struct {
+        size_t byte;
+        uint8_t content;
+        uint8_t question;
+        size_t index;
+    } cases[] = {
+        {0, 0x51, 11, 0},  {1, 0x49, 11, 0},  {2, 4, 12, 0},       {3, 65, 13, 0},
+        {23, 0x51, 14, 1}, {25, 8, 15, 1},    {26, 7, 15, 1},      {33, 2, 15, 1},
+        {26, 1, 16, 1},    {3, 3, 17, 0},     {767, 1, 17, 0},     {3, 5, 14, 4},
+    };
+    for (size_t i = 0; i < sizeof cases / sizeof cases[0]; i++) {
+        uint8_t kept = slot[cases[i].byte];
+        slot[cases[i].byte] = cases[i].content;
+        a = pacer_read(slot, length);
+        SAME(a.question, cases[i].question);
+        SAME(a.index, cases[i].index);
+        SAME(a.kind, 0);
+        SAME(a.rows, 0);
+        SAME(a.error, 0);
+        slot[cases[i].byte] = kept;
+    }
+}
+
+static void test_row_at(const uint8_t *slot, size_t length)
+{
+    size_t number = 0;
+    struct pacer_step_answer a;
+
+    for (size_t i = 0; i < 4; i++) {
+        a = pacer_row_at(slot, length, number);
+        SAME(a.question, 0);
+        SAME(a.index, 0);
+        SAME(a.found, 1);
+        SAME(a.group, rows_g[i].group);
+        SAME(a.first, rows_g[i].first);
+        SAME(a.last, rows_g[i].last);
+        SAME(a.value, rows_g[i].value);
+        SAME(a.next, i + 1);
+        number = a.next;
+    }
+    /* The end changes nothing, however often it is reached. */
+    for (int i = 0; i < 2; i++) {
+        a = pacer_row_at(slot, length, number);
+        SAME(a.question, 0);
+        SAME(a.found, 0);
+        SAME(a.next, 4);
+        number = a.next;
+    }
+    SAME(pacer_row_at(slot, length, SIZE_MAX).found, 0);
+    SAME(pacer_row_at(slot, 767, 0).question, 1);
+}
+
+static void test_lookup(const uint8_t *slot, size_t length)
+{
+    struct pacer_lookup_answer a;
+
+    for (unsigned group = 0; group < 8; group++) {
+        for (unsigned frame = 0; frame < 20; frame++) {
+            uint8_t covered = 0;
+            uint32_t value = 0;
+            for (size_t i = 0; i < 4; i++) {
+                if (rows_g[i].group == group && rows_g[i].first <= frame &&
+                    frame <= rows_g[i].last) {
+                    covered = 1;
+                    value = rows_g[i].value;
+                }
+            }
+            a = pacer_lookup(slot, length, (uint8_t)group, (uint16_t)frame);
+            SAME(a.question, 0);
+            SAME(a.index, 0);
+            SAME(a.covered, covered);
+            SAME(a.value, value);
+        }
+    }
+    SAME(pacer_lookup(slot, length, 0, 65535).covered, 0);
+    SAME(pacer_lookup(slot, length, 8, 0).question, 7);
+    SAME(pacer_lookup(slot, length, 8, 0).index, 0);
+    SAME(pacer_lookup(slot, 767, 8, 0).question, 1);
+}
+
+int main(void)
+{
+    static uint8_t slot[PACER_SLOT_BYTES + 32];
+    uint8_t log[45];
+
+    fill(log, sizeof log);
+    test_write_record(log);
+    test_segments(log);
+    test_query(log, slot, sizeof slot);
+    test_read(slot, sizeof slot);
+    test_row_at(slot, sizeof slot);
+    test_lookup(slot, sizeof slot);
+    if (differences == 0)
+        printf("c interface: ok\n");
+    return differences == 0 ? 0 : 1;
+}

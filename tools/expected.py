@@ -1,0 +1,441 @@
+#!/usr/bin/env python3
+"""The expected output of the program `profile`, computed from the paper's words.
+
+    expected.py INPUT                    print what `profile` prints for the file INPUT
+    expected.py --cases CASES EXPECTED   write the file of cases and the file of expected output
+
+An input is the kind (1 byte), 52 for a row limit or 45 for a share (hexadecimal), the bound
+(2 bytes, least byte first) and the log. In the file of cases each case is its length (2 bytes,
+least byte first) and then its bytes; the file of expected output has what `profile` prints for
+one case after another.
+
+Frames, segments, blocks and cuts are worked out one by one with Python's whole numbers and
+fractions, by the shortest way from the words and not the fastest.
+"""
+
+import itertools
+import random
+import sys
+from fractions import Fraction
+
+ROWS = 0x52
+SHARE = 0x45
+
+
+# ---- From records to segments --------------------------------------------------------------
+
+
+def whole(data):
+    """A number of several bytes, least byte first."""
+    return int.from_bytes(data, "little")
+
+
+def records_of(log):
+    """The records of a log: mark, group, first, last, load."""
+    return [
+        (log[at:at + 2], log[at + 2], whole(log[at + 3:at + 5]),
+         whole(log[at + 5:at + 7]), whole(log[at + 7:at + 9]))
+        for at in range(0, len(log) - 8, 9)
+    ]
+
+
+def aggregate(kind, loads):
+    """The value of a frame that lies in records with these loads."""
+    return [sum, len, min, max][kind](loads)
+
+
+def segments_of(log, kind):
+    """The segments by group and first frame: [group, first, last, value]."""
+    segments = []
+    records = records_of(log)
+    for group in range(8):
+        mine = [(first, last, load) for _, g, first, last, load in records if g == group]
+        # Between two neighbours among these frames no record begins or ends, so every frame
+        # from one to before the next lies in the same records.
+        edges = sorted({first for first, _, _ in mine} | {last + 1 for _, last, _ in mine})
+        for start, after in zip(edges, edges[1:]):
+            loads = [load for first, last, load in mine if first <= start <= last]
+            if not loads:
+                continue
+            value = aggregate(kind, loads)
+            if segments and segments[-1][0] == group and segments[-1][3] == value \
+                    and segments[-1][2] + 1 == start:
+                segments[-1][2] = after - 1
+            else:
+                segments.append([group, start, after - 1, value])
+    return segments
+
+
+# ---- Rows and their error ------------------------------------------------------------------
+
+
+def is_gap(segments, j):
+    """Whether segments j and j+1, counted from 1, are not adjacent."""
+    one, other = segments[j - 1], segments[j]
+    return one[0] != other[0] or one[2] + 1 != other[1]
+
+
+def nearest(mean):
+    """The whole number nearest to a fraction, the lower one at a half."""
+    below = mean.numerator // mean.denominator
+    return below + 1 if mean - below > Fraction(1, 2) else below
+
+
+class Blocks:
+    """Row value and error of every block that no gap lies within."""
+
+    def __init__(self, segments):
+        self.segments = segments
+        self.known = {}
+
+    def row_value(self, j, i):
+        """The row value of the block of segments j+1 to i."""
+        block = self.segments[j:i]
+        length = sum(last - first + 1 for _, first, last, _ in block)
+        total = sum((last - first + 1) * value for _, first, last, value in block)
+        return nearest(Fraction(total, length))
+
+    def error(self, j, i):
+        """The error of the block of segments j+1 to i."""
+        if (j, i) not in self.known:
+            r = self.row_value(j, i)
+            self.known[j, i] = sum(
+                (last - first + 1) * (value - r) ** 2
+                for _, first, last, value in self.segments[j:i]
+            )
+        return self.known[j, i]
+
+
+# ---- The split table -----------------------------------------------------------------------
+
+
+class SplitTable:
+    """E(k,i) and the cut kept for it, row after row, with the cuts weighed."""
+
+    def __init__(self, segments):
+        self.n = len(segments)
+        self.blocks = Blocks(segments)
+        self.gaps = [j for j in range(1, self.n) if is_gap(segments, j)]
+        self.least = {}
+        self.cut = {}
+        self.weighed = 0
+
+    def last_gap_below(self, i):
+        return max((j for j in self.gaps if j < i), default=0)
+
+    def fill_row(self, k):
+        for i in range(k, self.n + 1):
+            if k == 1:
+                if self.last_gap_below(i) == 0:
+                    self.least[1, i] = self.blocks.error(0, i)
+                    self.cut[1, i] = 0
+                continue
+            best = None
+            for j in range(i - 1, max(k - 1, self.last_gap_below(i)) - 1, -1):
+                self.weighed += 1
+                block_error = self.blocks.error(j, i)
+                before = self.least.get((k - 1, j))
+                if before is not None and (best is None or before + block_error < best):
+                    best = before + block_error
+                    self.cut[k, i] = j
+                if best is not None and block_error > best:
+                    break
+            if best is not None:
+                self.least[k, i] = best
+
+    def rows(self, k):
+        """The rows of the k blocks, from the cuts read back from the last row to the first."""
+        rows = []
+        i = self.n
+        while k > 0:
+            j = self.cut[k, i]
+            block = self.blocks.segments[j:i]
+            rows.append((block[0][0], block[0][1], block[-1][2], self.blocks.row_value(j, i)))
+            i, k = j, k - 1
+        return rows[::-1]
+
+
+def reduction(segments, rule, bound):
+    """Rows, error and weighed cuts, or None for 'too few rows'."""
+    table = SplitTable(segments)
+    n = table.n
+    runs = len(table.gaps) + 1 if n else 0
+    if n == 0:
+        return [], 0, 0
+    if rule == ROWS:
+        if bound < runs:
+            return None
+        for k in range(1, min(bound, n) + 1):
+            table.fill_row(k)
+        errors = {k: table.least[k, n] for k in range(runs, min(bound, n) + 1)}
+        chosen = min(errors, key=lambda k: (errors[k], k))
+        return table.rows(chosen), errors[chosen], table.weighed
+    for k in range(1, min(64, n) + 1):
+        table.fill_row(k)
+        if k >= runs and table.least[k, n] * 1000 <= bound * table.least[runs, n]:
+            return table.rows(k), table.least[k, n], table.weighed
+    return None
+
+
+# ---- The program ---------------------------------------------------------------------------
+
+
+def questions(kind, rule, bound, log):
+    """Number, index and answer of the questions ahead of 10, in order. The slot is the
+    program's own and long enough."""
+    yield 2, 0, kind <= 3
+    yield 3, 0, (rule == ROWS and bound <= 64) or (rule == SHARE and bound <= 1000)
+    yield 4, 0, len(log) % 9 == 0
+    yield 5, 0, len(log) // 9 <= 128
+    for index, (mark, group, first, last, load) in enumerate(records_of(log)):
+        yield 6, index, mark == b"LD"
+        yield 7, index, group <= 7
+        yield 8, index, first <= last
+        yield 9, index, load <= 1000
+
+
+def profile(data):
+    """What the program prints for an input."""
+    if len(data) > 65536:
+        return "no 5 0\n"
+    if len(data) < 4:
+        return "no 2 0\n"
+    kind, rule, bound, log = data[0], data[1], whole(data[2:4]), data[4:]
+    for number, index, yes in questions(kind, rule, bound, log):
+        if not yes:
+            return f"no {number} {index}\n"
+    answer = reduction(segments_of(log, kind), rule, bound)
+    if answer is None:
+        return "no 10 0\n"
+    rows, error, weighed = answer
+    lines = [(len(rows), error, weighed)] + rows
+    return "".join(" ".join(str(number) for number in line) + "\n" for line in lines)
+
+
+# ---- The cases -----------------------------------------------------------------------------
+
+
+def record(group, first, last, load):
+    return b"LD" + bytes([group]) + b"".join(
+        number.to_bytes(2, "little") for number in (first, last, load))
+
+
+def log_of(records):
+    return b"".join(record(*fields) for fields in records)
+
+
+def case(kind, rule, bound, log):
+    return bytes([kind, rule]) + bound.to_bytes(2, "little") + log
+
+
+LOG_G = [(0, 0, 3, 100), (0, 2, 5, 200), (0, 6, 6, 210), (0, 9, 10, 50), (1, 0, 0, 7)]
+
+# The running example of source document 000: the seven tuples of its instant aggregation (its
+# Fig. 1(c)), A as group 0 and B as group 1.
+PROJ = [(0, 1, 2, 800), (0, 3, 3, 600), (0, 4, 4, 500), (0, 5, 6, 350), (0, 7, 7, 300),
+        (1, 4, 5, 500), (1, 7, 8, 500)]
+
+# The relation of source document 004's example (its Fig. 1a), therapy A as group 0 and B as
+# group 1; the instant aggregation by sum is kind 0.
+PATIENTS = [(0, 1, 4, 600), (0, 1, 2, 400), (0, 4, 7, 300), (0, 5, 6, 50), (0, 9, 12, 300),
+            (1, 1, 3, 500), (1, 4, 8, 200), (1, 4, 5, 300), (1, 7, 8, 20), (1, 7, 8, 300)]
+
+
+def frames(loads, group=0, start=0):
+    """One record of one frame for each load."""
+    return [(group, start + i, start + i, load) for i, load in enumerate(loads)]
+
+
+def played_through():
+    """The cases of 'A log played through'."""
+    g = log_of(LOG_G)
+    for kind in range(4):
+        for c in list(range(0, 8)) + [63, 64, 65, 66, 255, 256, 65535]:
+            yield case(kind, ROWS, c, g)
+        for p in [0, 1, 2, 100, 281, 282, 283, 500, 999, 1000, 1001, 1002, 65535]:
+            yield case(kind, SHARE, p, g)
+    for loads in [[0, 1, 0], [0, 4, 8], [0, 1, 1], [0, 1], [0, 1, 2, 100], [5], [0], [1000, 0]]:
+        for c in range(0, 5):
+            yield case(0, ROWS, c, log_of(frames(loads)))
+    for c in (0, 1, 2, 64):
+        yield case(0, ROWS, c, log_of([(0, 0, 3, 10), (0, 4, 7, 10)]))
+        yield case(0, ROWS, c, b"")
+        yield case(0, SHARE, c, b"")
+    # The last frame of all, alone, at the end of a record and beside other groups.
+    for kind in range(4):
+        yield case(kind, ROWS, 64, log_of([(0, 65535, 65535, 1000)]))
+        yield case(kind, ROWS, 64, log_of([(0, 0, 65535, 1000), (0, 65535, 65535, 1)]))
+        yield case(kind, ROWS, 64, log_of([(0, 65530, 65535, 9), (0, 65533, 65535, 4),
+                                           (1, 0, 2, 9), (7, 65534, 65535, 3)]))
+        yield case(kind, ROWS, 1, log_of([(3, 0, 65534, 0), (3, 65535, 65535, 1000)]))
+        yield case(kind, ROWS, 8, log_of([(group, 0, 65535, 1000) for group in range(8)]))
+    # The greatest load, and one more.
+    for load in (999, 1000, 1001, 65535):
+        yield case(0, ROWS, 3, log_of([(0, 0, 0, load)]))
+    # 128 records that hold one another, 129 of them, and the greatest value, 128,000.
+    nested = [(2, i, 300 - i, 1000) for i in range(129)]
+    for count in (127, 128, 129):
+        yield case(1, ROWS, 2, log_of(nested[:count]))
+        yield case(0, ROWS, 1, log_of([(7, 0, 65535, 1000)] * count))
+
+
+def published():
+    """The examples of the source documents."""
+    for example in (PROJ, PATIENTS):
+        log = log_of(example)
+        for kind in range(4):
+            for c in range(0, 11):
+                yield case(kind, ROWS, c, log)
+            for p in (0, 2, 5, 10, 20, 24, 25, 67, 68, 150, 182, 183, 184, 185, 276, 500, 1000):
+                yield case(kind, SHARE, p, log)
+
+
+def refusals():
+    """Every refusal of the program, at the first place and at later ones, and pairs of faults."""
+    good = (1, 5, 9, 20)
+    faults = {
+        6: [b"MD" + record(*good)[2:], b"LE" + record(*good)[2:], b"DL" + record(*good)[2:]],
+        7: [record(8, 5, 9, 20), record(255, 5, 9, 20)],
+        8: [record(1, 9, 5, 20), record(1, 256, 255, 20), record(1, 65535, 0, 20)],
+        9: [record(1, 5, 9, 1001), record(1, 5, 9, 1256), record(1, 5, 9, 65535)],
+    }
+    for wrong in itertools.chain.from_iterable(faults.values()):
+        for before, after in ((0, 0), (0, 3), (2, 1), (7, 0), (127, 0)):
+            yield case(0, ROWS, 9, record(*good) * before + wrong + record(*good) * after)
+    # Two faults: in one record the lower question, in two records the earlier record.
+    for one, two in itertools.permutations((6, 7, 8, 9), 2):
+        yield case(0, ROWS, 9, record(*good) + faults[one][0] + faults[two][0])
+    yield case(0, ROWS, 9, b"XX" + bytes([9]) + record(1, 9, 5, 2000)[3:])
+    yield case(0, ROWS, 9, record(9, 9, 5, 2000))
+    yield case(0, ROWS, 9, record(1, 9, 5, 2000))
+    # Lengths of the log; a wrong length comes ahead of too many records and of wrong records.
+    for length in list(range(0, 20)) + [1151, 1152, 1153, 1160, 1161, 1162, 1170]:
+        yield case(0, ROWS, 9, (record(*good) * 140)[:length])
+        yield case(0, ROWS, 9, bytes(length))
+    yield case(0, ROWS, 9, record(*good) * 1000)
+    yield case(0, ROWS, 9, record(*good) * 1000 + b"L")
+    # Kinds, letters and bounds, alone and together.
+    g = log_of(LOG_G)
+    for kind in (4, 5, 0x52, 127, 128, 255):
+        yield case(kind, ROWS, 4, g)
+        yield case(kind, 0x00, 65, g[:-1])
+    for letter in (0x00, 0x01, 0x44, 0x46, 0x51, 0x53, 0x65, 0x72, 0xFF):
+        for bound in (0, 4, 64, 1000, 1001):
+            yield case(0, letter, bound, g)
+    for rule, bound in ((ROWS, 65), (SHARE, 1001)):
+        yield case(3, rule, bound, g[:-1])
+        yield case(3, rule, bound - 1, g[:-1])
+    # Too few rows: for a limit below the count of runs, and for 64 rows that miss a share.
+    apart = [(0, 2 * i, 2 * i, 5) for i in range(70)]
+    for count in (1, 2, 63, 64, 65, 66, 70):
+        log = log_of(apart[:count])
+        for c in {0, 1, min(64, count) - 1, min(64, count), 64}:
+            yield case(0, ROWS, c, log)
+        for p in (0, 500, 1000):
+            yield case(0, SHARE, p, log)
+    zigzag = frames([1 + i % 2 for i in range(90)])
+    for count in (63, 64, 65, 66, 80, 90):
+        for p in (0, 10, 100, 290, 300, 1000):
+            yield case(0, SHARE, p, log_of(zigzag[:count]))
+
+
+def short_inputs():
+    """Inputs shorter than 4 bytes, and the shortest whole ones."""
+    for length in range(0, 4):
+        for data in (bytes(length), bytes([0, ROWS, 4])[:length], bytes([9, 9, 9])[:length],
+                     b"\xff" * length):
+            yield data
+    yield bytes([0, ROWS, 0, 0])
+    yield bytes([3, SHARE, 0, 0])
+    yield bytes([4, SHARE, 0, 0])
+    yield bytes([0, ROWS, 64, 0])
+    yield bytes([0, ROWS, 0, 64])
+
+
+def longest():
+    """Logs of 128 records: the most segments, many rows, all groups."""
+    stairs = [(0, i, 255 - i, 1 + i % 7) for i in range(128)]
+    chain = [(4, 2 * i, 2 * i + 2, 1 + (i * i) % 11) for i in range(128)]
+    steps = frames([(7 * i) % 13 for i in range(128)], group=6, start=65408)
+    eighths = [(i // 16, 3 * (i % 16), 3 * (i % 16) + 3, (i * 37) % 101) for i in range(128)]
+    for log, kinds in ((stairs, (0, 1)), (chain, (0, 3)), (steps, (0,)), (eighths, (0, 1, 2, 3))):
+        for kind in kinds:
+            yield case(kind, ROWS, 8, log_of(log))
+        yield case(0, ROWS, 64, log_of(log))
+        yield case(0, SHARE, 300, log_of(log))
+    yield case(2, ROWS, 64, log_of(stairs))
+    yield case(0, SHARE, 0, log_of(steps))
+
+
+def at_random():
+    """Small logs with many overlaps, equal values and ties."""
+    numbers = random.Random(7)
+    for _ in range(150):
+        span = numbers.randint(1, 16)
+        base = numbers.choice((0, 0, 0, 65536 - span))
+        records = []
+        for _ in range(numbers.randint(0, 9)):
+            first, last = sorted(numbers.randrange(span) for _ in range(2))
+            records.append((numbers.choice((0, 0, 3, 7)), base + first, base + last,
+                            numbers.choice((0, 1, 2, 3, 10, 1000))))
+        rule, most = numbers.choice(((ROWS, 9), (SHARE, 1000)))
+        yield case(numbers.randrange(4), rule, numbers.randint(0, most), log_of(records))
+
+
+def all_cases():
+    """Every case once, in order."""
+    return list(dict.fromkeys(itertools.chain(
+        played_through(), published(), refusals(), short_inputs(), longest(), at_random())))
+
+
+def check_known():
+    """The numbers that the paper prints."""
+    g = log_of(LOG_G)
+    assert g[:9] == bytes.fromhex("4C4400000003006400")
+    assert profile(case(0, ROWS, 4, g)) == (
+        "4 11280 16\n0 0 1 100\n0 2 6 242\n0 9 10 50\n1 0 0 7\n")
+    assert segments_of(g, 0) == [[0, 0, 1, 100], [0, 2, 3, 300], [0, 4, 5, 200],
+                                 [0, 6, 6, 210], [0, 9, 10, 50], [1, 0, 0, 7]]
+    start = {c: profile(case(0, ROWS, c, g)).split()[:2] for c in (3, 5, 6, 64)}
+    assert start == {3: ["3", "40087"], 5: ["5", "67"], 6: ["6", "0"], 64: ["6", "0"]}
+    assert profile(case(0, ROWS, 2, g)) == "no 10 0\n"
+    assert profile(case(0, SHARE, 281, g)).startswith("5 67 ")
+    assert profile(case(0, SHARE, 282, g)).startswith("4 11280 ")
+    assert profile(case(0, ROWS, 2, log_of(frames([0, 1, 2, 100])))).split()[2] == "5"
+    # The published reductions: first and last frames are the same, and a row value is the whole
+    # number nearest to the published mean.
+    assert profile(case(0, ROWS, 4, log_of(PROJ))).split("\n")[1:5] == [
+        "0 1 3 733", "0 4 7 375", "1 4 5 500", "1 7 8 500"]
+    assert segments_of(log_of(PATIENTS), 0) == [
+        [0, 1, 2, 1000], [0, 3, 3, 600], [0, 4, 4, 900], [0, 5, 6, 350], [0, 7, 7, 300],
+        [0, 9, 12, 300], [1, 1, 5, 500], [1, 6, 6, 200], [1, 7, 8, 520]]
+    assert profile(case(0, ROWS, 5, log_of(PATIENTS))).split("\n")[1:6] == [
+        "0 1 2 1000", "0 3 4 750", "0 5 7 333", "0 9 12 300", "1 1 8 467"]
+    assert profile(case(0, ROWS, 4, log_of(PATIENTS))).split("\n")[1:5] == [
+        "0 1 4 875", "0 5 7 333", "0 9 12 300", "1 1 8 467"]
+
+
+def main(words):
+    check_known()
+    if len(words) == 1 and not words[0].startswith("--"):
+        with open(words[0], "rb") as file:
+            sys.stdout.write(profile(file.read()))
+        return 0
+    if len(words) == 3 and words[0] == "--cases":
+        cases = all_cases()
+        data = b"".join(len(one).to_bytes(2, "little") + one for one in cases)
+        if len(data) >= 262144:
+            print("the file of cases is too long", file=sys.stderr)
+            return 1
+        with open(words[1], "wb") as file:
+            file.write(data)
+        with open(words[2], "w", encoding="ascii", newline="\n") as file:
+            file.writelines(profile(one) for one in cases)
+        print(f"{len(cases)} cases, {len(data)} bytes", file=sys.stderr)
+        return 0
+    print(__doc__, file=sys.stderr)
+    return 2
+
+
+if __name__ == "__main__":
+    sys.exit(main(sys.argv[1:]))
