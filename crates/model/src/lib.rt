@@ -10,6 +10,7 @@ pub struct Record {
 }
 
 // A longest stretch of covered frames of one group with equal value.
+#[repr(C)]
 pub struct Segment {
     pub group: u8,
     pub first: u16,

@@ -1,0 +1,12 @@
+-- `no_row` meets its contract. Assumes nothing.
+use mathlib.Core.Path.{refl}
+use Rattle.capi.specs.Answers.{noRow}
+use Rattle.capi.proofs.answers.no_row.Statement.{statement}
+use Rattle.capi.proofs.answers.no_row.Tie as tie
+
+returns : tie.Need-returns
+unfolding noRow
+returns c = refl
+
+pub no-row-spec : {M : Type 1} → statement M
+no-row-spec = tie.close (tie.spec returns)

@@ -1,0 +1,23 @@
+-- `of_query` meets its contract: a query's answer, case by case. Assumes nothing.
+use borrow.Author.Needs.{needs}
+use Rattle.model.specs.Calls.{queryCase}
+use Rattle.capi.specs.Answers.{queryFields}
+use Rattle.capi.proofs.answers.of_query.Statement.{statement}
+use Rattle.capi.proofs.answers.of_query.Tie as tie
+
+enum-known-answer : tie.Need-enum-known-answer
+enum-known-answer c = search needs
+
+enum-known-answer-2 : tie.Need-enum-known-answer-2
+enum-known-answer-2 c = search needs
+
+returns : tie.Need-returns
+unfolding queryFields queryCase
+returns c = rw (c .before .answer .given .1)
+
+returns-2 : tie.Need-returns-2
+unfolding queryFields queryCase
+returns-2 c = rw (c .before .answer2 .given .1)
+
+pub of-query-spec : {M : Type 1} → statement M
+of-query-spec = tie.close (tie.spec enum-known-answer enum-known-answer-2 returns returns-2)

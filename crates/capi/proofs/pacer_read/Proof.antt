@@ -1,0 +1,18 @@
+-- `pacer_read` meets its contract: the fields of the reader's answer. Assumes nothing.
+use borrow.Author.Needs.{needs}
+use mathlib.Core.Path.{ap, _∙_}
+use Rattle.capi.specs.Answers.{readFields}
+use Rattle.capi.proofs.pacer_read.Statement.{statement}
+use Rattle.capi.proofs.pacer_read.Tie as tie
+
+read-requires : tie.Need-read-requires
+read-requires c κs = search needs
+
+of-read-requires : tie.Need-of-read-requires
+of-read-requires c κs = search needs
+
+returns : tie.Need-returns
+returns c = c .of-read .ensures ∙ ap readFields (c .before .read .ensures .0)
+
+pub pacer-read-spec : {M : Type 1} → statement M
+pacer-read-spec = tie.close (tie.spec read-requires of-read-requires returns)

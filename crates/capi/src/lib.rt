@@ -1,0 +1,94 @@
+// The tool's calls with the C calling convention, for programs in C and Rust; `include/pacer.h` declares them. A slice is a
+// pointer and a length there. Each call answers every input, says by equation with the definitions what it answers and what
+// the places lent to it hold afterwards, and has no `requires`.
+mod answers;
+
+use answers::CLookupAnswer;
+use answers::CQueryAnswer;
+use answers::CReadAnswer;
+use answers::CRecordAnswer;
+use answers::CSegmentsAnswer;
+use answers::CStepAnswer;
+use model::Record;
+use model::Segment;
+ghost use mathlib.Core.Path.{_≡_};
+ghost use lib.ListN.{length};
+ghost use Rattle.model.specs.Calls.{writeOutcome, writtenBuffer, letterOutcome, letterSlot, segmentsOutcome, filledList};
+ghost use Rattle.model.specs.Calls.{readOutcome, stepOutcome, stepNext, lookupOutcome};
+ghost use Rattle.capi.specs.Answers.{spanOf, recordFields, queryFields, segmentsFields, readFields, stepFields, lookupFields};
+
+// Writes a record to the front of a buffer.
+#[no_mangle]
+pub extern "C" fn pacer_write_record(
+    group: u8,
+    first: u16,
+    last: u16,
+    load: u16,
+    buffer: &mut [u8],
+) -> CRecordAnswer
+    ensures says { λ r. ⌜ r ≡ recordFields (writeOutcome (spanOf group first last load) (length (now (buffer .entry)))) ⌝ }
+    ensures holds { λ _. ⌜ now (buffer .exit) ≡ writtenBuffer (spanOf group first last load) (now (buffer .entry)) ⌝ }
+{
+    let record = Record {
+        group,
+        first,
+        last,
+        load,
+    };
+    let answer = pacer::write_record(record, buffer);
+    answers::of_record(answer)
+}
+
+// Answers a query about a log and writes its rows into a slot. The rule is 52 for a row limit and 45 for a share.
+#[no_mangle]
+pub extern "C" fn pacer_query(
+    kind: u8,
+    rule: u8,
+    bound: u16,
+    log: &[u8],
+    slot: &mut [u8],
+) -> CQueryAnswer
+    ensures says { λ r. ⌜ r ≡ queryFields (letterOutcome kind rule bound (now (log .entry)) (length (now (slot .entry)))) ⌝ }
+    ensures holds { λ _. ⌜ now (slot .exit) ≡ letterSlot kind rule bound (now (log .entry)) (now (slot .entry)) ⌝ }
+{
+    let answer = pacer::query_by_letter(kind, rule, bound, log, slot);
+    answers::of_query(answer)
+}
+
+// The segments of a log, in the first places of a list of 255 or more.
+#[no_mangle]
+pub extern "C" fn pacer_segments(log: &[u8], kind: u8, list: &mut [Segment]) -> CSegmentsAnswer
+    ensures { λ r. ⌜ (r ≡ segmentsFields (segmentsOutcome kind (now (log .entry)) (length (now (list .entry))))) × (now (list .exit) ≡ filledList kind (now (log .entry)) (now (list .entry))) ⌝ }
+{
+    let answer = lent::list::segments(log, kind, list);
+    answers::of_segments(answer)
+}
+
+// What the header of a slot says.
+#[no_mangle]
+pub extern "C" fn pacer_read(slot: &[u8]) -> CReadAnswer
+    ensures { λ r. ⌜ r ≡ readFields (readOutcome (now (slot .entry))) ⌝ }
+{
+    let reading = pacer::read(slot);
+    let answer = reading.answer;
+    answers::of_read(answer)
+}
+
+// One step of a walk over a slot: the row with this number and the number that comes next, or the end.
+#[no_mangle]
+pub extern "C" fn pacer_row_at(slot: &[u8], number: usize) -> CStepAnswer
+    ensures { λ r. ⌜ r ≡ stepFields (stepOutcome (now (slot .entry)) number) (stepNext (now (slot .entry)) number) ⌝ }
+{
+    let walked = pacer::row_at(slot, number);
+    let step = walked.step;
+    answers::of_step(step, walked.next)
+}
+
+// The value of the row of a group that contains a frame.
+#[no_mangle]
+pub extern "C" fn pacer_lookup(slot: &[u8], group: u8, frame: u16) -> CLookupAnswer
+    ensures { λ r. ⌜ r ≡ lookupFields (lookupOutcome (now (slot .entry)) group frame) ⌝ }
+{
+    let answer = pacer::lookup(slot, group, frame);
+    answers::of_lookup(answer)
+}
