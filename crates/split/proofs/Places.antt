@@ -3,12 +3,13 @@ use Prim.Native.Nat.{ℕ, zero, suc, _+_, _-_, _≤_, _<_}
 use mathlib.Core.Bool.{Bool, _&&_, not, cond}
 use mathlib.Core.List.{List, [], _∷_, _++_, map}
 use mathlib.Core.Path.{_≡_, refl, sym, ap, _∙_}
+use native.Mathlib.Decide.{ℕ-discrete}
 use native.Mathlib.Nat.{add-zero, zero-add, sub-zero}
 use native.Mathlib.Numerals.{add-one}
 use native.Mathlib.Omega.{arith}
 use lib.Dec.{eqb}
 use lib.ListN.{length, getD, set, replicate, List·getD-append}
-use lib.Seq.{set-at, append-snoc}
+use lib.Seq.{set-at, append-snoc, getD-set-same, getD-set-other}
 use Rattle.model.specs.Common.{listFrom}
 use Rattle.model.specs.Spans.{Span, adjacent, nowhere}
 use Rattle.model.specs.Blocks.{segmentAt, gap, lastGap, runsTo}
@@ -75,6 +76,16 @@ unfolding places
 places-at size count i h lt =
     List·getD-append (listFrom 0 count h) (replicate (size - count) 0) 0 i (rw length-listFrom lt)
     ∙ getD-listFrom h 0 0 count i lt ∙ ap h (zero-add i)
+
+-- the next place of an array whose places from `from` on stand for h
+pub set-next : {A : Type 0} (f h : ℕ → A) (out : List ℕ) (from p v : ℕ) → p < length out
+    → ((x : ℕ) → from ≤ x → x < p → f (getD out x 0) ≡ h x) → f v ≡ h p
+    → (x : ℕ) → from ≤ x → x < p + 1 → f (getD (set out p v) x 0) ≡ h x
+set-next f h out from p v room before now x ge lt =
+    elim (ℕ-discrete x p) [
+      | yes same ↦ rw (same, getD-set-same out p v 0 room) now
+      | no other ↦ rw (getD-set-other out p x v 0 other) (before x ge (omega arith))
+    ]
 
 pub column-places : (size n : ℕ) (f : Span ℕ → ℕ) (h : ℕ → Span ℕ)
     → places size n (λ i. f (h i)) ≡ column size f (listFrom 0 n h)

@@ -1,17 +1,16 @@
 -- Measured segments: what their columns hold, and that every block, error and sum of errors is in range. Assumes nothing.
-use Prim.Native.Nat.{ℕ, zero, suc, _+_, _-_, _≤_, _<_, zero-le}
+use Prim.Native.Nat.{ℕ, zero, suc, _+_, _-_, _*_, _≤_, _<_, zero-le}
 use mathlib.Core.Bool.{cond}
 use mathlib.Core.List.{List, [], _∷_}
 use mathlib.Core.Option.{Option, none, some}
 use mathlib.Core.Path.{_≡_, refl, sym, ap, _∙_, subst}
 use native.Mathlib.Decide.{ℕ-discrete}
-use native.Mathlib.Nat.{zero-add, le-trans, le-refl}
+use native.Mathlib.Nat.{mul-assoc, zero-add, le-trans, le-refl}
 use native.Mathlib.Numerals.{add-one}
 use native.Mathlib.Omega.{arith}
 use lib.Dec.{eqb}
 use lib.IntN.{pos}
 use lib.ListN.{length, getD, set}
-use lib.Seq.{getD-set-same, getD-set-other}
 use Rattle.model.specs.Common.{sumOf, listFrom}
 use Rattle.model.specs.Spans.{Span, spanLength, nowhere}
 use Rattle.model.specs.Blocks.{Totals, totalsOf, add, totals, block, rowValue, blockError, errorWith, segmentAt}
@@ -25,10 +24,10 @@ use Rattle.theory.proofs.Table.{sound}
 use Rattle.blocks.specs.Meaning.{errorFrom}
 use Rattle.model.specs.Room.{Measured, Block, Room, mostFrames, mostError}
 use Rattle.model.specs.Questions.{mostValue}
-use Rattle.theory.proofs.Bounds.{measured-block, error-le, squares-split, squares-most, totals-cons, totals-snoc}
+use Rattle.theory.proofs.Bounds.{measured-block, error-le, squares-split, squares-most, totals-cons, totals-snoc, mul-le}
 use Rattle.blocks.proofs.Bounds.{errorFrom-block}
-use Rattle.split.specs.Held.{errorIn, gapColumn}
-use Rattle.split.proofs.Places.{places-at, column-places, gapColumn-places, low-span}
+use Rattle.split.specs.Held.{errorIn, gapColumn, totalsAt, HoldTotals}
+use Rattle.split.proofs.Places.{set-next, places-at, column-places, gapColumn-places, low-span}
 
 -- ---- a wider block costs no less
 
@@ -131,32 +130,41 @@ module _ (segs : List (Span ℕ)) (ok : Measured segs) where
 pub errors-set : (e : ℕ → Option ℕ) (out : List ℕ) (from p v : ℕ) → p < length out
     → ((x : ℕ) → from ≤ x → x < p → errorIn (getD out x 0) ≡ e x) → errorIn v ≡ e p
     → (x : ℕ) → from ≤ x → x < p + 1 → errorIn (getD (set out p v) x 0) ≡ e x
-errors-set e out from p v room before now x ge lt =
-    elim (ℕ-discrete x p) [
-      | yes same ↦ rw (same, getD-set-same out p v 0 room) now
-      | no other ↦ rw (getD-set-other out p x v 0 other) (before x ge (omega arith))
-    ]
+errors-set = set-next errorIn
 
--- ---- totals that are grown by segment x
+-- ---- the totals of segment x, held in columns
 
-module _ (segs : List (Span ℕ)) (lengths values : List ℕ) (is-lengths : lengths ≡ column 256 spanLength segs) (is-values : values ≡ column 256 (λ s. s .value) segs) (x : ℕ) (lt : x < length segs) where
-  pub made-range : Measured segs → (getD lengths x 0 ≤ mostFrames) × (getD values x 0 ≤ mostValue)
-  made-range ok =
+module _ (segs : List (Span ℕ)) (ok : Measured segs) (lengths values : List ℕ) (is-lengths : lengths ≡ column 256 spanLength segs) (is-values : values ≡ column 256 (λ s. s .value) segs) where
+  made-range : (x : ℕ) → x < length segs → (getD lengths x 0 ≤ mostFrames) × (getD values x 0 ≤ mostValue)
+  made-range x lt =
       rw (column-at segs spanLength lengths x is-lengths lt, column-at segs (λ s. s .value) values x is-values lt)
       (segment-range segs ok x lt)
 
-  module _ (made t : Totals) (is : made ≡ totalsOf (getD lengths x 0) (getD values x 0)) where
-    made-is : made ≡ totalsOf (spanLength (segmentAt segs x)) ((segmentAt segs x) .value)
-    made-is =
-        is
-        ∙ rw (column-at segs spanLength lengths x is-lengths lt, column-at segs (λ s. s .value) values x is-values lt)
+  pub sums-fit : (n : ℕ) → n ≡ length segs → (x : ℕ) → x < n → getD lengths x 0 * getD values x 0 < 18446744073709551616
+  sums-fit n is-n x lt =
+      let (frames, value) = made-range x (omega arith) in
+      omega (arith, mul-le frames value)
 
-    pub totals-back : t ≡ totals (block (segmentAt segs) 0 x) → add t made ≡ totals (block (segmentAt segs) 0 (x + 1))
-    totals-back before = rw (before, made-is, add-one) (sym (totals-snoc (segmentAt segs) 0 x zero-le))
+  module _ (sums : List ℕ) (n : ℕ) (is-n : n ≡ length segs) (is-sums : (x : ℕ) → x < n → getD sums x 0 ≡ getD lengths x 0 * getD values x 0) where
+    pub squares-fit : (x : ℕ) → x < n → getD sums x 0 * getD values x 0 < 18446744073709551616
+    squares-fit x lt =
+        let (frames, value) = made-range x (omega arith) in
+        rw (is-sums x lt) (omega (arith, mul-le (mul-le frames value) value))
 
-    pub totals-front : (at i : ℕ) → at ≡ suc x → at ≤ i → t ≡ totals (block (segmentAt segs) at i)
-        → add made t ≡ totals (block (segmentAt segs) x i)
-    totals-front at i next le before = rw (before, made-is, next) (sym (totals-cons (segmentAt segs) x i (omega arith)))
+    pub hold-totals : (squares : List ℕ) → ((x : ℕ) → x < n → getD squares x 0 ≡ getD sums x 0 * getD values x 0)
+        → HoldTotals segs lengths sums squares
+    unfolding totalsAt totalsOf
+    hold-totals squares is-squares x lt =
+        rw (is-squares x (omega arith), is-sums x (omega arith), column-at segs spanLength lengths x is-lengths lt, column-at segs (λ s. s .value) values x is-values lt, mul-assoc)
+
+-- totals that are grown by segment x
+module _ (segs : List (Span ℕ)) (lengths sums squares : List ℕ) (held : HoldTotals segs lengths sums squares) (x : ℕ) (lt : x < length segs) (made t : Totals) (is : made ≡ totalsAt lengths sums squares x) where
+  pub totals-back : t ≡ totals (block (segmentAt segs) 0 x) → add t made ≡ totals (block (segmentAt segs) 0 (x + 1))
+  totals-back before = rw (before, is ∙ held x lt, add-one) (sym (totals-snoc (segmentAt segs) 0 x zero-le))
+
+  pub totals-front : (at i : ℕ) → at ≡ suc x → at ≤ i → t ≡ totals (block (segmentAt segs) at i)
+      → add made t ≡ totals (block (segmentAt segs) x i)
+  totals-front at i next le before = rw (before, is ∙ held x lt, next) (sym (totals-cons (segmentAt segs) x i (omega arith)))
 
 -- ---- the first row
 

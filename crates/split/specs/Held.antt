@@ -8,7 +8,8 @@ use mathlib.Core.Path.{_≡_}
 use lib.Dec.{leb, eqb}
 use lib.ListN.{length, getD, replicate}
 use Rattle.model.specs.Common.{listFrom}
-use Rattle.model.specs.Spans.{Span}
+use Rattle.model.specs.Spans.{Span, spanLength}
+use Rattle.model.specs.Blocks.{Totals, totalsOf, segmentAt}
 use Rattle.model.specs.Arrays.{column, rowArray}
 use Rattle.model.specs.Split.{Reduced, within, fewest, mostRows, errorOf, gapBelow, runs, leastOf, weighed, tablePlace}
 use Rattle.model.specs.declared.Bound.{Bound}
@@ -34,6 +35,15 @@ bestIn b = record { total = errorIn (b .total); cut = b .cut; tried = b .tried }
 -- the last gap below each number of segments, then zeros
 unfoldable pub gapColumn : List (Span ℕ) → List ℕ
 gapColumn segs = listFrom 0 (suc (length segs)) (gapBelow segs) ++ replicate (255 - length segs) 0
+
+-- the totals that columns of lengths, sums and squares hold at a place
+unfoldable pub totalsAt : List ℕ → List ℕ → List ℕ → ℕ → Totals
+totalsAt lengths sums squares i = record { frames = getD lengths i 0; sum = getD sums i 0; squares = getD squares i 0 }
+
+-- such columns hold the totals of each segment
+abbrev pub HoldTotals : List (Span ℕ) → List ℕ → List ℕ → List ℕ → Type 0
+HoldTotals segs lengths sums squares = (i : ℕ) → i < length segs
+    → totalsAt lengths sums squares i ≡ totalsOf (spanLength (segmentAt segs i)) ((segmentAt segs i) .value)
 
 -- the cuts of k blocks of the first i segments that a table holds, the last one first
 unfoldable pub cutsIn : List ℕ → ℕ → ℕ → List ℕ

@@ -3,8 +3,8 @@ use model::Segments;
 ghost use mathlib.Core.Path.{_≡_};
 ghost use mathlib.Core.Bool.{cond};
 ghost use mathlib.Core.List.{[]};
-ghost use Prim.Native.Nat.{suc, _<_, _≤_};
-ghost use lib.ListN.{replicate};
+ghost use Prim.Native.Nat.{ℕ, suc, _*_, _<_, _≤_};
+ghost use lib.ListN.{replicate, getD};
 ghost use Rattle.model.specs.Spans.{spanLength};
 ghost use Rattle.model.specs.Blocks.{gap};
 ghost use Rattle.model.specs.Split.{runs};
@@ -62,6 +62,21 @@ pub fn values(segments: Segments) -> [u64; 256]
     let mut i: usize = 0;
     while i < segments.count {
         out[i] = wide32(values[i]);
+        i += 1;
+    }
+    out
+}
+
+// The products of the first n places of two columns.
+pub fn products(a: &[u64; 256], b: &[u64; 256], n: usize) -> [u64; 256]
+    requires { ⌜ n ≤ 255 ⌝ }
+    requires { ⌜ ((i : ℕ) → i < n → getD (now a) i 0 * getD (now b) i 0 < 18446744073709551616) ⌝ }
+    ensures { λ r. ⌜ ((i : ℕ) → i < n → getD r i 0 ≡ getD (now (a .entry)) i 0 * getD (now (b .entry)) i 0) ⌝ }
+{
+    let mut out = zeros();
+    let mut i: usize = 0;
+    while i < n {
+        out[i] = a[i] * b[i];
         i += 1;
     }
     out

@@ -46,7 +46,7 @@ pub fn reduce(segments: Segments, bound: Bound) -> Reduction
     if !enough(bound, runs) {
         return refused();
     }
-    let filled = table::fill(segments, bound);
+    let filled = table::fill(segments, bound, runs);
     let column = filled.column;
     let choice = choose(bound, &column, runs, filled.rows);
     if !choice.found {

@@ -10,9 +10,10 @@ ghost use Prim.Native.Nat.{ℕ, _+_, _<_, _≤_, min, max};
 ghost use lib.Dec.{ltb, eqb};
 ghost use lib.ListN.{getD, replicate};
 ghost use Rattle.model.specs.Arrays.{segmentsIn};
-ghost use Rattle.model.specs.Split.{weigh, plus, least, errorOf, gapBelow};
+ghost use Rattle.model.specs.Split.{weigh, plus, least, errorOf, gapBelow, runs};
 ghost use Rattle.model.specs.Room.{Measured};
-ghost use Rattle.split.specs.Held.{noError, errorIn, bestIn, Known, lastRow, meetsIn, Comparable, Fills};
+ghost use Rattle.split.specs.Held.{noError, errorIn, bestIn, totalsAt, HoldTotals, gapColumn, Known, lastRow, meetsIn, Comparable, Fills};
+ghost use Rattle.blocks.specs.Meaning.{totalsIn};
 
 // 'none' among errors.
 const NONE: u64 = 18446744073709551615;
@@ -107,19 +108,36 @@ fn single(gap: usize, error: u64) -> u64
     if gap == 0 { error } else { NONE }
 }
 
-// The table's first row of errors.
-fn first_row(segments: Segments) -> [u64; 256]
+// The totals of segment i, from the columns of lengths, sums and squares.
+fn segment_totals(lengths: &[u64; 256], sums: &[u64; 256], squares: &[u64; 256], i: usize) -> Totals
+    requires { ⌜ i < 256 ⌝ }
+    ensures { λ r. ⌜ totalsIn r ≡ totalsAt (now (lengths .entry)) (now (sums .entry)) (now (squares .entry)) i ⌝ }
+{
+    Totals {
+        frames: lengths[i],
+        sum: sums[i],
+        squares: squares[i],
+    }
+}
+
+// The table's first row of errors, from the columns of the segments.
+fn first_row(
+    segments: Segments,
+    lengths: &[u64; 256],
+    sums: &[u64; 256],
+    squares: &[u64; 256],
+    gaps: &[usize; 256],
+) -> [u64; 256]
     requires { ⌜ Measured (segmentsIn segments) ⌝ }
+    requires { ⌜ HoldTotals (segmentsIn segments) (now lengths) (now sums) (now squares) ⌝ }
+    requires { ⌜ now gaps ≡ gapColumn (segmentsIn segments) ⌝ }
     ensures { λ r. ⌜ ((i : ℕ) → i ≤ segments .count → errorIn (getD r i 0) ≡ least (errorOf (segmentsIn segments)) (gapBelow (segmentsIn segments)) 1 i) ⌝ }
 {
-    let lengths = columns::lengths(segments);
-    let values = columns::values(segments);
-    let gaps = columns::gaps(segments);
     let mut out = no_errors();
     let mut block = Totals::EMPTY;
     let mut i: usize = 0;
     while i < segments.count {
-        let wider = block.add(Totals::make(lengths[i], values[i]));
+        let wider = block.add(segment_totals(lengths, sums, squares, i));
         block = wider;
         i += 1;
         out[i] = single(gaps[i], wider.error());
@@ -164,27 +182,29 @@ fn goes_on(bound: Bound, column: &[u64; 65], runs: usize, k: usize, last: usize)
     !met(bound, column, runs, k)
 }
 
-// The table's rows 1 to the last that the bound asks for.
-pub fn fill(segments: Segments, bound: Bound) -> Filled
+// The table's rows 1 to the last that the bound asks for; `parts` is the number of runs.
+pub fn fill(segments: Segments, bound: Bound, parts: usize) -> Filled
     requires { ⌜ Measured (segmentsIn segments) ⌝ }
     requires { ⌜ Known bound ⌝ }
     requires { ⌜ 1 ≤ lastRow bound (segments .count) ⌝ }
+    requires { ⌜ parts ≡ runs (segmentsIn segments) ⌝ }
     ensures { λ r. ⌜ Fills (segmentsIn segments) bound r ⌝ }
 {
     let n = segments.count;
     let lengths = columns::lengths(segments);
     let values = columns::values(segments);
+    let sums = columns::products(&lengths, &values, n);
+    let squares = columns::products(&sums, &values, n);
     let gaps = columns::gaps(segments);
-    let runs = columns::runs(segments);
     let last = last_row(bound, n);
-    let mut before = first_row(segments);
+    let mut before = first_row(segments, &lengths, &sums, &squares, &gaps);
     let mut errors = no_errors();
     let mut column = no_column();
     column[1] = before[n];
     let mut table = no_cuts();
     let mut weighed: u64 = 0;
     let mut k: usize = 1;
-    let mut more = goes_on(bound, &column, runs, k, last);
+    let mut more = goes_on(bound, &column, parts, k, last);
     while more {
         k += 1;
         let mut i: usize = k;
@@ -195,7 +215,7 @@ pub fn fill(segments: Segments, bound: Bound) -> Filled
             let mut best = Best::UNTRIED;
             let found = 'scan: loop {
                 at -= 1;
-                let wider = Totals::make(lengths[at], values[at]).add(block);
+                let wider = segment_totals(&lengths, &sums, &squares, at).add(block);
                 let error = wider.error();
                 let total = plus(before[at], error);
                 let next = best.weigh(total, at);
@@ -219,7 +239,7 @@ pub fn fill(segments: Segments, bound: Bound) -> Filled
         }
         before = errors;
         column[k] = before[n];
-        more = goes_on(bound, &column, runs, k, last);
+        more = goes_on(bound, &column, parts, k, last);
     }
     Filled {
         table: table,

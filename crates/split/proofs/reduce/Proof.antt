@@ -84,7 +84,7 @@ returns-2 c =
     (is, reduction-weighed (segmentsIn (c .before .before .before .before .before .args .segments)) (c .before .before .before .before .before .args .bound) _ _ (count-is (c .before .before .before .before .before .args .segments)) is)
 
 fill-requires : tie.Need-fill-requires
-fill-requires c κs = (c .before .before .before .before .pre .0, (c .before .before .before .before .pre .1, subst (λ (n : ℕ). 1 ≤ lastRow (c .before .before .before .before .args .bound) n) (count-is (c .before .before .before .before .args .segments)) (can-try c)))
+fill-requires c κs = (c .before .before .before .before .pre .0, (c .before .before .before .before .pre .1, (subst (λ (n : ℕ). 1 ≤ lastRow (c .before .before .before .before .args .bound) n) (count-is (c .before .before .before .before .args .segments)) (can-try c), c .before .before .runs .ensures)))
 
 choose-requires : tie.Need-choose-requires
 choose-requires c κs =
