@@ -205,7 +205,7 @@ fn query_lines(report: &mut Report, shape: &Shape, n: usize, log: &[u8], rule: u
     let mut slot = [0; 768];
     let mut other = [0; 768];
     let answer = c::query(0, rule, bound, log, &mut slot);
-    let expected = plain::query(0, rule, bound, log, &mut other);
+    let expected = plain::query(black_box(0), rule, bound, log, &mut other);
     let found = plain::QueryAnswer {
         question: answer.question,
         index: answer.index,
@@ -223,10 +223,12 @@ fn query_lines(report: &mut Report, shape: &Shape, n: usize, log: &[u8], rule: u
             answer.rows, answer.weighed
         ),
         &mut || {
-            black_box(c::query(0, rule, bound, black_box(log), &mut slot));
+            let (kind, rule, bound) = black_box((0, rule, bound));
+            black_box(c::query(kind, rule, bound, black_box(log), &mut slot));
         },
         &mut || {
-            black_box(plain::query(0, rule, bound, black_box(log), &mut other));
+            let (kind, rule, bound) = black_box((0, rule, bound));
+            black_box(plain::query(kind, rule, bound, black_box(log), &mut other));
         },
     );
 }
@@ -236,7 +238,7 @@ fn count_segments(log: &[u8]) -> usize {
     let mut list = [c::Segment::default(); 255];
     let mut other = [plain::Segment::default(); 255];
     let answer = c::segments(log, 0, &mut list);
-    let expected = plain::segments(log, 0, &mut other);
+    let expected = plain::segments(log, black_box(0), &mut other);
     assert_eq!((answer.question, answer.index, answer.count), expected);
     for (one, two) in list.iter().zip(&other) {
         assert_eq!(
@@ -292,10 +294,10 @@ fn main() {
                 &format!("segments, {}", shape.name),
                 &n.to_string(),
                 &mut || {
-                    black_box(c::segments(black_box(&log), 0, &mut list));
+                    black_box(c::segments(black_box(&log), black_box(0), &mut list));
                 },
                 &mut || {
-                    black_box(plain::segments(black_box(&log), 0, &mut other));
+                    black_box(plain::segments(black_box(&log), black_box(0), &mut other));
                 },
             );
         }
@@ -343,16 +345,16 @@ fn main() {
             let value = (answer.covered == 1).then_some(answer.value);
             assert_eq!(
                 (answer.question, answer.index, value),
-                plain::lookup(&slot, 0, frame)
+                plain::lookup(&slot, black_box(0), frame)
             );
             report.line(
                 &format!("lookup, {what}"),
                 &rows.to_string(),
                 &mut || {
-                    black_box(c::lookup(black_box(&slot), 0, black_box(frame)));
+                    black_box(c::lookup(black_box(&slot), black_box(0), black_box(frame)));
                 },
                 &mut || {
-                    black_box(plain::lookup(black_box(&slot), 0, black_box(frame)));
+                    black_box(plain::lookup(black_box(&slot), black_box(0), black_box(frame)));
                 },
             );
         }
