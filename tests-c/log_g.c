@@ -43,6 +43,17 @@ static void bytes_at(int line, const char *what, const uint8_t *found, const uin
 }
 #define BYTES(found, expected, length) bytes_at(__LINE__, #found, found, expected, length)
 
+/* Compares the answer of a query, field by field. */
+static void answer_at(int line, struct pacer_query_answer found, struct pacer_query_answer expected)
+{
+    same_at(line, "question", found.question, expected.question);
+    same_at(line, "index", found.index, expected.index);
+    same_at(line, "rows", found.rows, expected.rows);
+    same_at(line, "error", found.error, expected.error);
+    same_at(line, "weighed", found.weighed, expected.weighed);
+}
+#define ANSWER(found, ...) answer_at(__LINE__, found, (struct pacer_query_answer){__VA_ARGS__})
+
 /* Log G: group, first, last, load. */
 static const uint16_t log_g[5][4] = {
     {0, 0, 3, 100}, {0, 2, 5, 200}, {0, 6, 6, 210}, {0, 9, 10, 50}, {1, 0, 0, 7},
@@ -143,10 +154,10 @@ static void test_query(const uint8_t *log, uint8_t *slot, size_t length)
         {PACER_SHARE, 282, 4, 11280},
     };
     uint8_t before[PACER_SLOT_BYTES + 32];
-    struct pacer_query_answer a;
 
     for (size_t i = 0; i < sizeof cases / sizeof cases[0]; i++) {
-        a = pacer_query(PACER_SUM, cases[i].rule, cases[i].bound, log, 45, slot, length);
+        const struct pacer_query_answer a =
+            pacer_query(PACER_SUM, cases[i].rule, cases[i].bound, log, 45, slot, length);
         SAME(a.question, 0);
         SAME(a.index, 0);
         SAME(a.rows, cases[i].rows);
@@ -162,38 +173,22 @@ static void test_query(const uint8_t *log, uint8_t *slot, size_t length)
     SAME(pacer_query(0, PACER_ROWS, 65, log, 44, slot, length).question, 3);
     SAME(pacer_query(0, PACER_SHARE, 1001, log, 44, slot, length).question, 3);
     SAME(pacer_query(0, PACER_ROWS, 64, log, 44, slot, length).question, 4);
-    a = pacer_query(0, PACER_ROWS, 2, log, 45, slot, length);
-    SAME(a.question, 10);
-    SAME(a.index, 0);
-    SAME(a.rows, 0);
-    SAME(a.error, 0);
-    SAME(a.weighed, 0);
+    ANSWER(pacer_query(0, PACER_ROWS, 2, log, 45, slot, length), 10, 0, 0, 0, 0);
     BYTES(slot, before, length);
 
     /* A damaged third record: the index says which. */
     uint8_t damaged[45];
     memcpy(damaged, log, 45);
     damaged[2 * 9 + 2] = 8;
-    a = pacer_query(0, PACER_ROWS, 4, damaged, 45, slot, length);
-    SAME(a.question, 7);
-    SAME(a.index, 2);
+    ANSWER(pacer_query(0, PACER_ROWS, 4, damaged, 45, slot, length), 7, 2, 0, 0, 0);
     BYTES(slot, before, length);
 
     /* The empty log with c = 0. */
-    a = pacer_query(0, PACER_ROWS, 0, log, 0, slot, length);
-    SAME(a.question, 0);
-    SAME(a.rows, 0);
-    SAME(a.error, 0);
-    SAME(a.weighed, 0);
+    ANSWER(pacer_query(0, PACER_ROWS, 0, log, 0, slot, length), 0, 0, 0, 0, 0);
 
     /* The worked case: c = 4, with the cuts weighed and every byte of the slot. */
     memcpy(slot, before, length);
-    a = pacer_query(PACER_SUM, PACER_ROWS, 4, log, 45, slot, length);
-    SAME(a.question, 0);
-    SAME(a.index, 0);
-    SAME(a.rows, 4);
-    SAME(a.error, 11280);
-    SAME(a.weighed, 16);
+    ANSWER(pacer_query(PACER_SUM, PACER_ROWS, 4, log, 45, slot, length), 0, 0, 4, 11280, 16);
     BYTES(slot, slot_g, PACER_SLOT_BYTES);
     BYTES(slot + PACER_SLOT_BYTES, before + PACER_SLOT_BYTES, length - PACER_SLOT_BYTES);
 }

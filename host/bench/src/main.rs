@@ -354,7 +354,11 @@ fn main() {
                     black_box(c::lookup(black_box(&slot), black_box(0), black_box(frame)));
                 },
                 &mut || {
-                    black_box(plain::lookup(black_box(&slot), black_box(0), black_box(frame)));
+                    black_box(plain::lookup(
+                        black_box(&slot),
+                        black_box(0),
+                        black_box(frame),
+                    ));
                 },
             );
         }

@@ -66,6 +66,19 @@ fn same_places<T: PartialEq + Debug>(
     Ok(())
 }
 
+/// The rows of a slot that was read.
+pub fn stretches(profile: &pacer::Profile) -> Vec<Stretch> {
+    profile
+        .rows()
+        .map(|row| Stretch {
+            group: row.group,
+            first: row.first,
+            last: row.last,
+            value: row.value,
+        })
+        .collect()
+}
+
 fn segment_of(stretch: &Stretch) -> c::Segment {
     c::Segment {
         group: stretch.group,
@@ -262,17 +275,8 @@ fn slot_calls(random: &mut Random, slot: &[u8], seen: &mut Seen) -> Result<(), S
             &reference::layout(kind, error, &rows),
         )?;
         // The safe walk gives the same rows.
-        let walked: Vec<Stretch> = pacer::read(slot)
-            .map_err(|refusal| refusal.to_string())?
-            .rows()
-            .map(|row| Stretch {
-                group: row.group,
-                first: row.first,
-                last: row.last,
-                value: row.value,
-            })
-            .collect();
-        same_places("rows", &walked, &rows)?;
+        let profile = pacer::read(slot).map_err(|refusal| refusal.to_string())?;
+        same_places("rows", &stretches(&profile), &rows)?;
     }
     let far = [64, 65, 1 << 16, usize::MAX, random.next() as usize];
     for number in (0..rows.len() + 2).chain(far) {

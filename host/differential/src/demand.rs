@@ -1,6 +1,6 @@
 //! Demand 3 for the proved library, against every fitting list of a small log.
 
-use crate::compare::same;
+use crate::compare::{same, stretches};
 use crate::inputs::{self, Fields};
 use crate::random::Random;
 use pacer::{Bound, Kind, Query};
@@ -23,16 +23,7 @@ fn outcome(kind: u8, bound: Bound, log: &[u8]) -> Result<(Vec<Stretch>, u64), u8
     };
     pacer::query(query, log, &mut slot).map_err(|refusal| refusal.question)?;
     let profile = pacer::read(&slot).map_err(|refusal| refusal.question)?;
-    let rows = profile
-        .rows()
-        .map(|row| Stretch {
-            group: row.group,
-            first: row.first,
-            last: row.last,
-            value: row.value,
-        })
-        .collect();
-    Ok((rows, profile.error()))
+    Ok((stretches(&profile), profile.error()))
 }
 
 /// The rows of the answer are a fitting list, and the error is theirs.
@@ -45,6 +36,31 @@ fn fitting(rows: &[Stretch], error: u64, frames: &[Frame]) -> Result<(), String>
     )
 }
 
+/// Holds the library's answer to the error and row count of the best list, and to question 10 if there is none. Gives the rows.
+fn hold(
+    kind: u8,
+    bound: Bound,
+    log: &[u8],
+    frames: &[Frame],
+    best: Option<(u64, usize)>,
+    tried: &mut Tried,
+) -> Result<Option<Vec<Stretch>>, String> {
+    tried.queries += 1;
+    match (outcome(kind, bound, log), best) {
+        (Ok((rows, error)), Some(best)) => {
+            same("error and row count", (error, rows.len()), best)?;
+            fitting(&rows, error, frames)?;
+            Ok(Some(rows))
+        }
+        (Err(question), None) => {
+            tried.refused += 1;
+            same("no list answers the bound", question, 10)?;
+            Ok(None)
+        }
+        (found, best) => Err(format!("the library gives {found:?}, the lists {best:?}")),
+    }
+}
+
 /// A row limit: `least` has the least error of the fitting lists of exactly k rows at place k.
 fn limit(
     kind: u8,
@@ -54,26 +70,13 @@ fn limit(
     least: &[Option<u64>],
     tried: &mut Tried,
 ) -> Result<Option<Vec<Stretch>>, String> {
-    tried.queries += 1;
     let reachable = least.iter().take(usize::from(c) + 1);
     // The least error of at most c rows and the fewest rows that have it.
     let best = reachable
         .enumerate()
         .filter_map(|(rows, error)| error.map(|error| (error, rows)))
         .min();
-    match (outcome(kind, Bound::Rows(c), log), best) {
-        (Ok((rows, error)), Some(best)) => {
-            same("least error and fewest rows", (error, rows.len()), best)?;
-            fitting(&rows, error, frames)?;
-            Ok(Some(rows))
-        }
-        (Err(question), None) => {
-            tried.refused += 1;
-            same("too few rows", question, 10)?;
-            Ok(None)
-        }
-        (found, best) => Err(format!("the library gives {found:?}, the lists {best:?}")),
-    }
+    hold(kind, Bound::Rows(c), log, frames, best, tried)
 }
 
 /// A share of the least error at the fewest rows.
@@ -85,7 +88,6 @@ fn share(
     least: &[Option<u64>],
     tried: &mut Tried,
 ) -> Result<Option<Vec<Stretch>>, String> {
-    tried.queries += 1;
     let most = least
         .iter()
         .flatten()
@@ -97,19 +99,7 @@ fn share(
         let (error, most) = ((*error)?, most?);
         (u128::from(error) * 1000 <= most).then_some((error, rows))
     });
-    match (outcome(kind, Bound::Share(p), log), best) {
-        (Ok((rows, error)), Some(best)) => {
-            same("fewest rows within the share", (error, rows.len()), best)?;
-            fitting(&rows, error, frames)?;
-            Ok(Some(rows))
-        }
-        (Err(question), None) => {
-            tried.refused += 1;
-            same("too few rows for the share", question, 10)?;
-            Ok(None)
-        }
-        (found, best) => Err(format!("the library gives {found:?}, the lists {best:?}")),
-    }
+    hold(kind, Bound::Share(p), log, frames, best, tried)
 }
 
 /// One small log with all limits that matter and several shares.
