@@ -11,7 +11,7 @@ use Rattle.model.specs.Common.{listFrom, numberAt, bytesOf}
 pub number-add : (a b : ℕ) (bytes : List ℕ) (p : ℕ)
     → numberAt (a + b) bytes p ≡ numberAt a bytes p + 256 ^ a * numberAt b bytes (p + a)
 unfolding numberAt
-number-add zero b bytes p = rw (zero-add, add-zero) (omega arith)
+number-add zero b bytes p = rw (zero-add b, add-zero p) (omega arith)
 number-add (suc a) b bytes p =
     let next : p + suc a ≡ suc p + a = omega arith in
     rw (suc-add, next, number-add a b bytes (suc p), pow-succ' 256 a) (omega arith)

@@ -69,7 +69,9 @@ rows c = c .ask-rows .ensures ∙ rw (c .before .wide .ensures)
 -- the tail's test is that of 17
 tail : (c : tie.After-zero-tail) → c .zero-tail .result ≡ tailZero (Slot (c .before .before .before .before .before .before .before))
 unfolding tailZero slotCount slotLength
-tail c = cc
+tail c =
+    let w = c .before .before .before .before .before in
+    c .zero-tail .ensures ∙ rw (c .before .place .ensures, w .wide .ensures)
 
 -- what 17 answers is what all answer
 last : (c : tie.After-zero-tail)

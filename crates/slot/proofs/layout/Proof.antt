@@ -39,8 +39,8 @@ loop-holds c =
     let a = c .before .before .before .before .before .before .args in
     let h = c .before .before .before .before in (
       search needs,
-      c .before .copy-in .ensures
-          ∙ start (a .kind) (a .error) (a .count) (a .t3) _ _ (h .before .no-bytes .ensures) (h .header-bytes .ensures),
+      rw (c .before .copy-in .ensures)
+          (start (a .kind) (a .error) (a .count) (a .t3) _ _ (h .before .no-bytes .ensures) (h .header-bytes .ensures)),
     )
 
 -- the slot stays as long as it is
@@ -89,8 +89,8 @@ loop-again c =
     let l = r .before .before .before in
     let a = l .before .before .before .before .before .before .before .args in (
       search needs,
-      c .before .copy-in2 .ensures
-          ∙ turn (a .kind) (a .error) (a .count) (a .t3) (l .loop .i) _ _ _ (omega arith) (l .loop .inv .1) (p .place .ensures) (r .row-bytes .ensures),
+      rw (c .before .copy-in2 .ensures)
+          (turn (a .kind) (a .error) (a .count) (a .t3) (l .loop .i) _ _ _ (omega arith) (l .loop .inv .1) (p .place .ensures) (r .row-bytes .ensures)),
     )
 
 returns : tie.Need-returns Inv-loop μ-loop

@@ -1,5 +1,6 @@
 -- `slot::lookup` meets its contract: the slot's questions, then 7, then the row that holds the frame. Assumes nothing.
 use Prim.Native.Nat.{ℕ, _≤_}
+use mathlib.Core.Bool.{true, false}
 use mathlib.Core.List.{List, [], _∷_}
 use mathlib.Core.Path.{_≡_, sym, ap, _∙_}
 use native.Mathlib.Omega.{arith}
@@ -52,20 +53,29 @@ seven : (c : tie.After-enum-told)
 unfolding lookupOutcome lookupQuestions
 seven c = passed-first (slotQuestions (Slot c)) _ _ (passed c)
 
+-- 7 is asked of the group
+known : (c : tie.Then1) → groupKnown (c .before .before .before .before .before .args .group) ≡ true
+unfolding groupKnown
+known c = le-leb _ _ (c .if1 .taken)
+
+unknown : (c : tie.Else1) → groupKnown (c .before .before .before .before .before .args .group) ≡ false
+unfolding groupKnown
+unknown c = lt-leb _ _ (c .if1 .left)
+
 returns : tie.Need-returns
 unfolding askedCase lookupCase lookupOutcome lookupQuestions
 returns c =
     refused-first _ _ _ (ap askedCase (sym (c .before .asked .given .1)) ∙ c .before .before .before .ask .ensures)
 
 returns-2 : tie.Need-returns-2
-unfolding outcome ask groupKnown slotCount slotRows
+unfolding outcome ask slotCount slotRows
 returns-2 c =
     let g = c .before .before .before in
-    c .find .ensures ∙ rw (c .before .wide .ensures) (rw (le-leb _ _ (g .if1 .taken)) at (seven (g .before)))
+    c .find .ensures ∙ rw (c .before .wide .ensures) (rw (known g) at (seven (g .before)))
 
 returns-3 : tie.Need-returns-3
-unfolding outcome ask groupKnown lookupCase
-returns-3 c = rw (lt-leb _ _ (c .if1 .left)) at (seven (c .before))
+unfolding outcome ask lookupCase
+returns-3 c = rw (unknown c) at (seven (c .before))
 
 pub lookup-spec : {M : Type 1} → statement M
 lookup-spec =

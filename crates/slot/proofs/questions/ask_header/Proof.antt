@@ -1,10 +1,17 @@
 -- `slot::questions::ask_header` meets its contract: each test is the question's, and the first that fails refuses.
 -- Assumes nothing.
+use mathlib.Core.Bool.{true, false}
+use mathlib.Core.List.{List}
+use mathlib.Core.Path.{_≡_}
+use Prim.Native.Nat.{ℕ}
 use borrow.Author.Needs.{needs}
 use borrow.Author.Tests.{le-leb, lt-leb}
+use denote.Ref.{now}
+use lib.Dec.{leb}
+use lib.ListN.{length}
 use Rattle.model.specs.Split.{mostRows}
 use Rattle.model.specs.Slot.{slotLength, slotKind, slotCount}
-use Rattle.model.specs.Questions.{ask, askRoom, outcome, kindKnown, slotQuestions}
+use Rattle.model.specs.Questions.{ask, askRoom, outcome, marked, kindKnown, slotQuestions}
 use Rattle.model.specs.Calls.{askedCase}
 use Rattle.slot.proofs.Answers.{denied, granted}
 use Rattle.slot.proofs.questions.ask_header.Statement.{statement}
@@ -13,9 +20,22 @@ use Rattle.slot.proofs.questions.ask_header.Tie as tie
 no-requires : tie.Need-no-requires
 no-requires c κs = search needs
 
+-- 1 is asked of the slot's length
+short : (c : tie.Then1) → leb slotLength (length (now (c .before .before .args .slot))) ≡ false
+unfolding slotLength
+short c = lt-leb _ _ (c .if1 .taken)
+
+-- the slot, once it is long enough
+abbrev Slot : tie.Else1 → List ℕ
+Slot c = now (c .before .before .args .slot)
+
+long : (c : tie.Else1) → leb slotLength (length (Slot c)) ≡ true
+unfolding slotLength
+long c = le-leb _ _ (c .if1 .left)
+
 returns : tie.Need-returns
-unfolding slotQuestions outcome ask askRoom slotLength kindKnown slotKind slotCount mostRows askedCase
-returns c = rw (lt-leb _ _ (c .before .if1 .taken)) (c .no .ensures)
+unfolding slotQuestions outcome ask askRoom
+returns c = rw (short (c .before)) (c .no .ensures)
 
 marked-requires : tie.Need-marked-requires
 marked-requires c κs = search needs
@@ -23,12 +43,15 @@ marked-requires c κs = search needs
 no-requires-2 : tie.Need-no-requires-2
 no-requires-2 c κs = search needs
 
+-- 11 is asked of the first two bytes
+mark : (c : tie.After-marked) → c .marked .result ≡ marked (Slot (c .before)) 0 0x50 0x48
+mark c = c .marked .ensures
+
 returns-2 : tie.Need-returns-2
-unfolding slotQuestions outcome ask askRoom slotLength kindKnown slotKind slotCount mostRows askedCase
+unfolding slotQuestions outcome ask askRoom
 returns-2 c =
-    rw
-    (le-leb _ _ (c .before .before .before .if1 .left), denied (c .before .before .marked .ensures) (c .before .if2 .taken))
-    (c .no2 .ensures)
+    let m = c .before .before in
+    rw (long (m .before), denied (mark m) (c .before .if2 .taken)) (c .no2 .ensures)
 
 shared-slice-read-wide : tie.Need-shared-slice-read-wide
 shared-slice-read-wide c = search needs
@@ -39,16 +62,21 @@ wide-requires c κs = search needs
 no-requires-3 : tie.Need-no-requires-3
 no-requires-3 c κs = search needs
 
+-- 12 is asked of the kind
+unknown : (c : tie.Then3) → kindKnown (slotKind (Slot (c .before .before .before .before .before))) ≡ false
+unfolding kindKnown slotKind
+unknown c = lt-leb _ _ (rw (c .before .wide .ensures) at (c .if3 .taken))
+
+known : (c : tie.Else3) → kindKnown (slotKind (Slot (c .before .before .before .before .before))) ≡ true
+unfolding kindKnown slotKind
+known c = le-leb _ _ (rw (c .before .wide .ensures) at (c .if3 .left))
+
 returns-3 : tie.Need-returns-3
-unfolding slotQuestions outcome ask askRoom slotLength kindKnown slotKind slotCount mostRows askedCase
+unfolding slotQuestions outcome ask askRoom
 returns-3 c =
-    let p = c .before .before .before .before in
-    rw (
-      le-leb _ _ (p .before .before .if1 .left),
-      granted (p .before .marked .ensures) (p .if2 .left),
-      lt-leb _ _ (rw (c .before .before .wide .ensures) at (c .before .if3 .taken)),
-    )
-    (c .no3 .ensures)
+    let t = c .before in
+    let p = t .before .before .before in
+    rw (long (p .before .before), granted (mark (p .before)) (p .if2 .left), unknown t) (c .no3 .ensures)
 
 shared-slice-read-wide-2 : tie.Need-shared-slice-read-wide-2
 shared-slice-read-wide-2 c = search needs
@@ -59,30 +87,28 @@ wide-requires-2 c κs = search needs
 no-requires-4 : tie.Need-no-requires-4
 no-requires-4 c κs = search needs
 
+-- 13 is asked of the row count
+many : (c : tie.Then4) → leb (slotCount (Slot (c .before .before .before .before .before .before .before .before))) mostRows ≡ false
+unfolding slotCount mostRows
+many c = lt-leb _ _ (rw (c .before .wide2 .ensures) at (c .if4 .taken))
+
+few : (c : tie.Else4) → leb (slotCount (Slot (c .before .before .before .before .before .before .before .before))) mostRows ≡ true
+unfolding slotCount mostRows
+few c = le-leb _ _ (rw (c .before .wide2 .ensures) at (c .if4 .left))
+
 returns-4 : tie.Need-returns-4
-unfolding slotQuestions outcome ask askRoom slotLength kindKnown slotKind slotCount mostRows askedCase
+unfolding slotQuestions outcome ask askRoom
 returns-4 c =
     let q = c .before .before .before .before in
     let p = q .before .before .before in
-    rw (
-      le-leb _ _ (p .before .before .if1 .left),
-      granted (p .before .marked .ensures) (p .if2 .left),
-      le-leb _ _ (rw (q .before .wide .ensures) at (q .if3 .left)),
-      lt-leb _ _ (rw (c .before .before .wide2 .ensures) at (c .before .if4 .taken)),
-    )
-    (c .no4 .ensures)
+    rw (long (p .before .before), granted (mark (p .before)) (p .if2 .left), known q, many (c .before)) (c .no4 .ensures)
 
 returns-5 : tie.Need-returns-5
-unfolding slotQuestions outcome ask askRoom slotLength kindKnown slotKind slotCount mostRows askedCase
+unfolding slotQuestions outcome ask askRoom askedCase
 returns-5 c =
     let q = c .before .before .before in
     let p = q .before .before .before in
-    rw (
-      le-leb _ _ (p .before .before .if1 .left),
-      granted (p .before .marked .ensures) (p .if2 .left),
-      le-leb _ _ (rw (q .before .wide .ensures) at (q .if3 .left)),
-      le-leb _ _ (rw (c .before .wide2 .ensures) at (c .if4 .left)),
-    )
+    rw (long (p .before .before), granted (mark (p .before)) (p .if2 .left), known q, few c)
 
 pub ask-header-spec : {M : Type 1} → statement M
 ask-header-spec =

@@ -1,23 +1,25 @@
--- `slot::questions::marked` meets its contract. Assumes nothing.
-use native.Mathlib.Numerals.{add-one}
+-- `slot::questions::marked` meets its contract: each byte is below 256, so one number tells both. Assumes nothing.
+use native.Mathlib.Omega.{arith}
 use borrow.Author.Needs.{needs}
-use Rattle.model.specs.Questions.{marked}
+use denote.Ref.{now}
+use Rattle.slot.proofs.Compared.{marked-number}
 use Rattle.slot.proofs.questions.marked.Statement.{statement}
 use Rattle.slot.proofs.questions.marked.Tie as tie
 
-shared-slice-read-result : tie.Need-shared-slice-read-result
-shared-slice-read-result c = search needs
+two-requires : tie.Need-two-requires
+two-requires c κs = search needs
+
+mul-result : tie.Need-mul-result
+mul-result c = search needs
 
 add-result : tie.Need-add-result
 add-result c = search needs
 
-shared-slice-read-result-2 : tie.Need-shared-slice-read-result-2
-shared-slice-read-result-2 c = search needs
-
 returns : tie.Need-returns
-unfolding marked
-returns c = rw add-one
+returns c =
+    let a = c .before .before .args in
+    rw (c .two .ensures)
+    (marked-number (now (a .bytes)) (a .at) (a .a) (a .b) (omega (arith, c .before .shared-slice-known .given (a .at))) (omega arith))
 
 pub marked-spec : {M : Type 1} → statement M
-marked-spec =
-    tie.close (tie.spec shared-slice-read-result add-result shared-slice-read-result-2 returns)
+marked-spec = tie.close (tie.spec two-requires mul-result add-result returns)

@@ -1,6 +1,6 @@
 -- `slot::questions::row_known` meets its contract. Assumes nothing.
 use mathlib.Core.Path.{refl}
-use Rattle.model.specs.Questions.{groupKnown, mostValue, rowKnown}
+use Rattle.model.specs.Questions.{groupKnown, rowKnown}
 use Rattle.model.specs.Calls.{rowSpan}
 use Rattle.slot.proofs.questions.row_known.Statement.{statement}
 use Rattle.slot.proofs.questions.row_known.Tie as tie

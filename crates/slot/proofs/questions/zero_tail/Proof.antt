@@ -1,33 +1,30 @@
--- `slot::questions::zero_tail` meets its contract. The invariant: the test of the bytes from `i` on is that of all from `from`
--- on. The measure is the number of bytes that are left. Assumes nothing.
+-- `slot::questions::zero_tail` meets its contract. The invariant: the bytes before `i`, or-ed together, and those from `i` on are
+-- zero if all from `from` on are. The measure is the number of bytes that are left. Assumes nothing.
 use Prim.Native.Nat.{_-_, _≤_}
+use mathlib.Core.Bool.{_&&_, and-assoc, and-true}
 use mathlib.Core.Path.{_≡_, refl, sym, _∙_}
 use native.Mathlib.Omega.{arith}
 use borrow.Author.Needs.{needs}
-use borrow.Author.Tests.{eq-eqb, ne-eqb}
 use denote.Ref.{now}
+use lib.Dec.{eqb}
 use Rattle.model.specs.Questions.{zeros}
+use Rattle.slot.proofs.Compared.{or-zero}
 use Rattle.slot.proofs.Steps.{none-left, zeros-turn}
 use Rattle.slot.proofs.questions.zero_tail.Statement.{statement}
 use Rattle.slot.proofs.questions.zero_tail.Tie as tie
 
 abbrev Inv-loop : tie.InvT-loop
-Inv-loop slot from i₀ i = (i ≤ 768) × (zeros slot i (768 - i) ≡ zeros slot from (768 - from))
+Inv-loop slot from any₀ i₀ any i =
+    (i ≤ 768) × (eqb any 0 && zeros slot i (768 - i) ≡ zeros slot from (768 - from))
 
 abbrev μ-loop : tie.MeasureT-loop
-μ-loop slot from i₀ i = 768 - i
+μ-loop slot from any₀ i₀ any i = 768 - i
 
 loop-holds : tie.Need-loop-holds Inv-loop μ-loop
 loop-holds c = (search needs, refl)
 
-shared-slice-read-if1 : tie.Need-shared-slice-read-if1 Inv-loop μ-loop
-shared-slice-read-if1 c = omega arith
-
--- a byte that is not zero ends the test
-returns : tie.Need-returns Inv-loop μ-loop
-returns c =
-    let l = c .before .before .before in
-    sym (sym (l .loop .inv .1) ∙ zeros-turn (now (l .before .args .slot)) (l .loop .i) 768 (omega arith) ∙ rw (ne-eqb _ _ (c .if1 .taken)))
+shared-slice-read-any : tie.Need-shared-slice-read-any Inv-loop μ-loop
+shared-slice-read-any c = omega arith
 
 add-i : tie.Need-add-i Inv-loop μ-loop
 add-i c = omega arith
@@ -37,25 +34,20 @@ loop-less c = omega arith
 
 loop-again : tie.Need-loop-again Inv-loop μ-loop
 loop-again c =
-    let l = c .before .before .before in
-    (omega arith, sym (zeros-turn (now (l .before .args .slot)) (l .loop .i) 768 (omega arith) ∙ rw (eq-eqb _ _ (c .if1 .left))) ∙ l .loop .inv .1)
+    let l = c .before .before in (
+      omega arith,
+      rw (or-zero, and-assoc, ← zeros-turn (now (l .before .args .slot)) (l .loop .i) 768 (omega arith)) (l .loop .inv .1),
+    )
 
-returns-2 : tie.Need-returns-2 Inv-loop μ-loop
+returns : tie.Need-returns Inv-loop μ-loop
 unfolding zeros
-returns-2 c =
+returns c =
     let l = c .before in
-    sym (none-left (zeros (now (l .before .args .slot)) (l .loop .i)) (l .loop .i) 768 (c .loop-test .left)) ∙ l .loop .inv .1
+    sym (and-true (eqb (l .loop .any) 0))
+    ∙ sym (none-left (λ k. eqb (l .loop .any) 0 && zeros (now (l .before .args .slot)) (l .loop .i) k) (l .loop .i) 768 (c .loop-test .left))
+    ∙ l .loop .inv .1
 
 pub zero-tail-spec : {M : Type 1} → statement M
 zero-tail-spec =
     tie.close
-    (tie.spec
-    Inv-loop
-    μ-loop
-    loop-holds
-    shared-slice-read-if1
-    returns
-    add-i
-    loop-less
-    loop-again
-    returns-2)
+    (tie.spec Inv-loop μ-loop loop-holds shared-slice-read-any add-i loop-less loop-again returns)

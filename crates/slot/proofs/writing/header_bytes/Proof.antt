@@ -32,7 +32,18 @@ low-requires-8 : tie.Need-low-requires-8
 low-requires-8 c κs = search needs
 
 returns : tie.Need-returns
-returns c = simp eight-bytes (cc)
+returns c =
+    simp (
+      eight-bytes,
+      c .before .before .before .before .before .before .before .low .ensures,
+      c .before .before .before .before .before .before .low2 .ensures,
+      c .before .before .before .before .before .low3 .ensures,
+      c .before .before .before .before .low4 .ensures,
+      c .before .before .before .low5 .ensures,
+      c .before .before .low6 .ensures,
+      c .before .low7 .ensures,
+      c .low8 .ensures,
+    )
 
 pub header-bytes-spec : {M : Type 1} → statement M
 header-bytes-spec =

@@ -1,0 +1,2 @@
+-- What the code's numbers stand for.
+pub mod Places
