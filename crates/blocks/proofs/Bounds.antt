@@ -1,17 +1,17 @@
 -- A row value and the products of which an error is made stay in their ranges, and a block's error follows from its totals.
 -- Assumes nothing.
-use Prim.Native.Nat.{ℕ, zero, suc, _+_, _-_, _*_, _≤_, _<_}
+use Prim.Native.Nat.{ℕ, zero, suc, _+_, _-_, _*_, _/_, _≤_, _<_}
 use mathlib.Core.Bool.{cond}
 use mathlib.Core.List.{List}
 use mathlib.Core.Path.{_≡_}
 use native.Mathlib.Decide.{decLe}
-use native.Mathlib.Nat.{mul-le-mul-right, lt-of-not-le}
+use native.Mathlib.Nat.{mul-le-mul-right, lt-of-not-le, le-antisymm, le-of-suc-le-suc, mul-pos, le-div-iff-mul-le, div-lt-iff-lt-mul}
 use native.Mathlib.Omega.{arith}
 use Rattle.model.specs.Spans.{Span}
 use Rattle.model.specs.Blocks.{Totals, totals, nearest, rowValue, blockError}
 use Rattle.model.specs.Questions.{mostValue}
 use Rattle.model.specs.Room.{Block}
-use Rattle.theory.proofs.Nearest.{error-pos, nearest-high}
+use Rattle.theory.proofs.Nearest.{error-pos, nearest-low, nearest-high}
 use Rattle.theory.proofs.Bounds.{mul-le}
 use Rattle.blocks.specs.Meaning.{errorFrom}
 
@@ -22,6 +22,19 @@ unfolding nearest
 nearest-none sum frames le none-here =
     let nothing : sum ≡ 0 = omega arith in
     rw (none-here, nothing)
+
+-- the mean with half a frame's worth added, rounded down; one less than half, so that a half is rounded down too
+pub nearest-by-division : (sum frames : ℕ) → 0 < frames → (2 * sum + frames - 1) / (2 * frames) ≡ nearest sum frames
+nearest-by-division sum frames pos-frames =
+    by (nearest sum frames) (nearest-low sum frames pos-frames) (nearest-high sum frames pos-frames)
+  where
+    by : (n : ℕ) → 2 * sum ≤ (2 * n + 1) * frames → 2 * (n * frames) < 2 * sum + frames
+        → (2 * sum + frames - 1) / (2 * frames) ≡ n
+    by n low high =
+        let two : 0 < 2 * frames = omega arith in
+        le-antisymm
+        (le-of-suc-le-suc (div-lt-iff-lt-mul {x = 2 * sum + frames - 1} {y = suc n} two .1 (omega arith)))
+        (le-div-iff-mul-le {x = n} {y = 2 * sum + frames - 1} two .1 (omega arith))
 
 pub nearest-le : (sum frames : ℕ) → sum ≤ mostValue * frames → nearest sum frames ≤ mostValue
 nearest-le sum frames le =

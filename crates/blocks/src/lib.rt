@@ -45,7 +45,7 @@ impl Totals {
         }
     }
 
-    // The whole number nearest to the mean, the lower one at a half.
+    // The whole number nearest to the mean, the lower one at a half; 0 for no frames.
     pub fn row_value(self) -> u64
         requires { ⌜ Room (totalsIn self) ⌝ }
         ensures { λ r. ⌜ r ≡ nearest (self .sum) (self .frames) ⌝ }
@@ -53,13 +53,7 @@ impl Totals {
         if self.frames == 0 {
             return 0;
         }
-        let mean = self.sum / self.frames;
-        let rest = self.sum % self.frames;
-        if self.frames < 2 * rest {
-            mean + 1
-        } else {
-            mean
-        }
+        (2 * self.sum + self.frames - 1) / (2 * self.frames)
     }
 
     // The squared error of the row value.

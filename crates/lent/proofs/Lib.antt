@@ -3,3 +3,4 @@ pub mod Walks
 pub mod Copying
 pub mod Filling
 pub mod Counting
+pub mod Element

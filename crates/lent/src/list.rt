@@ -4,26 +4,14 @@ use model::Segments;
 use model::SegmentsAnswer;
 ghost use mathlib.Core.Path.{_≡_};
 ghost use mathlib.Core.List.{_++_, map};
-ghost use Prim.Native.Nat.{_<_, _≤_};
+ghost use Prim.Native.Nat.{_≤_};
 ghost use lib.ListN.{length, drop};
 ghost use Rattle.model.specs.Questions.{mostSegments};
 ghost use Rattle.model.specs.Calls.{segmentOf, segmentsCase, segmentsOutcome, filledList};
-ghost use Rattle.model.specs.Arrays.{spanIn, segmentsIn};
+ghost use Rattle.model.specs.Arrays.{segmentsIn};
 
-// The segment at a place.
-fn segment_at(segments: Segments, index: usize) -> Segment
-    requires { ⌜ index < mostSegments ⌝ }
-    ensures { λ r. ⌜ r ≡ segmentOf (spanIn (segments .groups) (segments .firsts) (segments .lasts) (segments .values) index) ⌝ }
-{
-    Segment {
-        group: segments.groups[index],
-        first: segments.firsts[index],
-        last: segments.lasts[index],
-        value: segments.values[index],
-    }
-}
-
-// Copies segments into the first places of a list.
+// Copies segments into the first places of a list. The loop reads the arrays itself: a call that takes them by value copies
+// them whole for each segment.
 fn fill(segments: Segments, list: &mut [Segment])
     requires { ⌜ (segments .count ≤ mostSegments) × (segments .count ≤ length (now list)) ⌝ }
     ensures { λ r. ⌜ now (list .exit) ≡ map segmentOf (segmentsIn segments) ++ drop (segments .count) (now (list .entry)) ⌝ }
@@ -31,8 +19,12 @@ fn fill(segments: Segments, list: &mut [Segment])
     let count = segments.count;
     let mut index: usize = 0;
     while index < count {
-        let segment = segment_at(segments, index);
-        list[index] = segment;
+        list[index] = Segment {
+            group: segments.groups[index],
+            first: segments.firsts[index],
+            last: segments.lasts[index],
+            value: segments.values[index],
+        };
         index += 1;
     }
 }

@@ -14,12 +14,16 @@ unfoldable pub spanIn : List ℕ → List ℕ → List ℕ → List ℕ → ℕ 
 spanIn groups firsts lasts values i =
     record { group = getD groups i 0; first = getD firsts i 0; last = getD lasts i 0; value = getD values i 0 }
 
+-- the first `count` spans, from a list for each field
+abbrev pub spansIn : List ℕ → List ℕ → List ℕ → List ℕ → ℕ → List (Span ℕ)
+spansIn groups firsts lasts values count = listFrom 0 count (spanIn groups firsts lasts values)
+
 -- `size` places: one field of each span, then zeros
 unfoldable pub column : ℕ → (Span ℕ → ℕ) → List (Span ℕ) → List ℕ
 column size field spans = map field spans ++ replicate (size - length spans) 0
 
 unfoldable pub recordsIn : Records → List (Span ℕ)
-recordsIn r = listFrom 0 (r .count) (spanIn (r .groups) (r .firsts) (r .lasts) (r .loads))
+recordsIn r = spansIn (r .groups) (r .firsts) (r .lasts) (r .loads) (r .count)
 
 unfoldable pub recordArrays : List (Span ℕ) → Records
 recordArrays spans =
@@ -32,7 +36,7 @@ recordArrays spans =
     }
 
 unfoldable pub segmentsIn : Segments → List (Span ℕ)
-segmentsIn s = listFrom 0 (s .count) (spanIn (s .groups) (s .firsts) (s .lasts) (s .values))
+segmentsIn s = spansIn (s .groups) (s .firsts) (s .lasts) (s .values) (s .count)
 
 unfoldable pub segmentArrays : List (Span ℕ) → Segments
 segmentArrays spans =

@@ -32,8 +32,8 @@ use Rattle.theory.proofs.Demands.{reduced-to, demand1, demand3}
 use Rattle.theory.proofs.SlotLaws.{listFrom-of}
 use Rattle.log.proofs.Asking.{refused-first}
 use Rattle.log.proofs.Columns.{map-at}
-use Rattle.split.specs.Held.{Known, answered, reductionOf}
-use Rattle.split.specs.declared.Reduction.{Reduction}
+use Rattle.cuts.specs.Held.{Known, answered, reductionOf}
+use Rattle.cuts.specs.declared.Reduction.{Reduction}
 use Rattle.pacer.specs.declared.preparing.Prepared.{Prepared}
 use Rattle.pacer.specs.Promises.{BestReading, noCounts}
 use Rattle.pacer.specs.Prepared.{boundQuestions, writes, laidOut, preparedSlot}

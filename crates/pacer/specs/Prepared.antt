@@ -9,7 +9,7 @@ use Rattle.model.specs.Calls.{Counts, answerOf}
 use Rattle.model.specs.Arrays.{rowsIn}
 use Rattle.model.specs.declared.Query.{Query}
 use Rattle.model.specs.declared.QueryAnswer.the-variants.{Written, Refused}
-use Rattle.split.specs.declared.Reduction.{Reduction}
+use Rattle.cuts.specs.declared.Reduction.{Reduction}
 use Rattle.pacer.specs.declared.preparing.Prepared.{Prepared}
 
 -- 1 to 3: those that need no look at the log

@@ -1,10 +1,10 @@
 // A query's answer and slot, worked out before anything lent is touched.
+use cuts::Reduction;
 use model::Asked;
 use model::Bound;
 use model::Query;
 use model::QueryAnswer;
 use model::Refusal;
-use split::Reduction;
 ghost use mathlib.Core.Path.{_≡_};
 ghost use mathlib.Core.List.{_++_};
 ghost use Prim.Native.Nat.{_≤_};
@@ -13,7 +13,7 @@ ghost use Rattle.model.specs.Split.{reduced};
 ghost use Rattle.model.specs.Questions.{outcome, boundKnown, logQuestions, orderQuestions};
 ghost use Rattle.model.specs.Calls.{askedCase, queryCase, logSegments, queryOutcome};
 ghost use Rattle.model.specs.Demands.{AllPass};
-ghost use Rattle.split.specs.Held.{reductionOf};
+ghost use Rattle.cuts.specs.Held.{reductionOf};
 ghost use Rattle.pacer.specs.Prepared.{boundQuestions, writes, laidOut, preparedSlot};
 
 // The answer to a query, and the bytes of its slot: zeros in a refusal.
@@ -94,9 +94,24 @@ fn reduce(query: Query, log: &[u8]) -> Reduction
     ensures { λ r. ⌜ r ≡ reductionOf (reduced (query .bound) (logSegments (query .kind) (now (log .entry)))) ⌝ }
 {
     let records = log::decode(log);
-    let segments = segments::find(records, query.kind);
+    let mut groups = [0u8; 255];
+    let mut firsts = [0u16; 255];
+    let mut lasts = [0u16; 255];
+    let mut values = [0u32; 255];
+    let n = segments::find(
+        &records.groups,
+        &records.firsts,
+        &records.lasts,
+        &records.loads,
+        records.count,
+        query.kind,
+        &mut groups,
+        &mut firsts,
+        &mut lasts,
+        &mut values,
+    );
     let bound = query.bound;
-    split::reduce(segments, bound)
+    split::reduce(&groups, &firsts, &lasts, &values, n, bound)
 }
 
 // The bytes of a slot in which nothing stands.

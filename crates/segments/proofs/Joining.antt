@@ -1,13 +1,13 @@
 -- Joined spans: joining what is joined already changes nothing, more spans behind make no fewer segments, and a span behind
 -- joined ones concerns the last of them alone. Assumes nothing.
 use Prim.Native.Nat.{ℕ, suc, _≤_, zero-le}
-use mathlib.Core.Bool.{Bool, true, false, _&&_}
+use mathlib.Core.Bool.{true, false, _&&_}
 use mathlib.Core.List.{List, [], _∷_, _++_, foldr, append-assoc, foldr-append}
 use mathlib.Core.Path.{_≡_, refl, sym, ap, _∙_}
 use native.Mathlib.Omega.{arith}
 use lib.Dec.{eqb}
 use lib.ListN.{length}
-use borrow.Author.Tests.{eqb-true, eq-eqb, ne-eqb}
+use borrow.Author.Tests.{eqb-true}
 use Rattle.model.specs.Spans.{Span, adjacent}
 use Rattle.model.specs.Segments.{join, fuse}
 use Rattle.theory.proofs.Tests.{cases, and-true, adjacent-true, true≢false}
@@ -22,22 +22,6 @@ joins-true s t e =
     let q = adjacent-true s t (p .0) in
     (q .0, q .1, eqb-true _ _ (p .1))
 
-pub and-true-right : (b : Bool) → b && true ≡ b
-and-true-right true = refl
-and-true-right false = refl
-
-pub and-false-right : (b : Bool) → b && false ≡ false
-and-false-right true = refl
-and-false-right false = refl
-
-pub joins-equal : (s t : Span ℕ) → s .value ≡ t .value → joins s t ≡ adjacent s t
-unfolding joins
-joins-equal s t e = rw (eq-eqb _ _ e) (and-true-right (adjacent s t))
-
-pub joins-unequal : (s t : Span ℕ) → (s .value ≡ t .value → ⊥) → joins s t ≡ false
-unfolding joins
-joins-unequal s t e = rw (ne-eqb _ _ e) (and-false-right (adjacent s t))
-
 -- two spans that join, before a list, are one
 pub fuse-join : (s t : Span ℕ) (rest : List (Span ℕ)) → joins s t ≡ true
     → fuse eqb s (fuse eqb t rest) ≡ fuse eqb (join s t) rest
@@ -50,7 +34,7 @@ fuse-join s t (u ∷ rest) e =
     (λ c. rw (c, rw (same .0, same .2) at e)) (λ c. rw (c, rw (same .0, same .2) at e)))
 
 -- and two that do not join stay apart
-pub fuse-apart : (s t : Span ℕ) (rest : List (Span ℕ)) → joins s t ≡ false → fuse eqb s (t ∷ rest) ≡ s ∷ t ∷ rest
+fuse-apart : (s t : Span ℕ) (rest : List (Span ℕ)) → joins s t ≡ false → fuse eqb s (t ∷ rest) ≡ s ∷ t ∷ rest
 unfolding fuse joins
 fuse-apart s t rest e = rw e
 
@@ -67,7 +51,7 @@ fuse-first rest s (t ∷ l) =
     cases (joins s t)
     (λ e. rw (fuse-joined s t l e) (sym (fuse-join s t (foldr (fuse eqb) rest l) e))) (λ e. rw (fuse-apart s t l e))
 
-pub joined-first : (rest l : List (Span ℕ)) → foldr (fuse eqb) rest (joined l) ≡ foldr (fuse eqb) rest l
+joined-first : (rest l : List (Span ℕ)) → foldr (fuse eqb) rest (joined l) ≡ foldr (fuse eqb) rest l
 unfolding joined
 joined-first rest [] = refl
 joined-first rest (s ∷ l) = fuse-first rest s (foldr (fuse eqb) [] l) ∙ ap (fuse eqb s) (joined-first rest l)

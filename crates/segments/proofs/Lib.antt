@@ -1,7 +1,6 @@
--- Laws of joined spans, of the stretches between events, of tallies, and of what is measured.
+-- Laws of joined spans and of the arrays that they are stored in, of the records of one group, and of the stretches between events.
 pub mod Joining
 pub mod Storing
-pub mod Tallies
+pub mod Loads
 pub mod Stretches
 pub mod Groups
-pub mod Measuring

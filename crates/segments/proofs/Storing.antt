@@ -10,7 +10,6 @@ use Rattle.model.specs.Common.{listFrom}
 use Rattle.model.specs.Spans.{Span}
 use Rattle.model.specs.Segments.{join}
 use Rattle.model.specs.Arrays.{spanIn, segmentsIn, segmentArrays}
-use Rattle.model.specs.declared.Records.{Records}
 use Rattle.model.specs.declared.Segments.{Segments}
 use Rattle.theory.proofs.SlotLaws.{length-listFrom}
 use Rattle.log.proofs.Columns.{listFrom-snoc, column-snoc, column-again, column-more, segments-held}
@@ -21,15 +20,12 @@ pos-of-ne : (n : ℕ) → (n ≡ 0 → ⊥) → 0 < n
 pos-of-ne zero ne = absurd (ne refl)
 pos-of-ne (suc n) ne = omega arith
 
-pub count-of : (s : Segments) → length (segmentsIn s) ≡ s .count
+count-of : (s : Segments) → length (segmentsIn s) ≡ s .count
 unfolding segmentsIn
 count-of s = length-listFrom 0 (s .count) _
 
--- record i and segment i, read from the arrays
-abbrev pub recordOf : Records → ℕ → Span ℕ
-recordOf r i = spanIn (r .groups) (r .firsts) (r .lasts) (r .loads) i
-
-abbrev pub segmentOf : Segments → ℕ → Span ℕ
+-- segment i, read from the arrays
+abbrev segmentOf : Segments → ℕ → Span ℕ
 segmentOf s i = spanIn (s .groups) (s .firsts) (s .lasts) (s .values) i
 
 -- a span behind those of arrays concerns the last of them, if there is one
@@ -47,7 +43,7 @@ unfolding segmentsIn joinsLast listFrom
 joinsLast-none-in m s none-made = ap (λ n. joinsLast (listFrom 0 n (segmentOf m)) s) none-made
 
 -- arrays of joined spans are made
-pub made-of : (l : List (Span ℕ)) → Made (segmentArrays (joined l))
+made-of : (l : List (Span ℕ)) → Made (segmentArrays (joined l))
 made-of l = sym (ap segmentArrays (ap joined (segments-held (joined l)) ∙ joined-joined l))
 
 module _ (made : Segments) (l : List (Span ℕ)) (held : made ≡ segmentArrays (joined l)) where
@@ -59,10 +55,10 @@ module _ (made : Segments) (l : List (Span ℕ)) (held : made ≡ segmentArrays 
   made-behind r = ap (λ m. joined (segmentsIn m ++ r)) held ∙ rw (segments-held (joined l)) (joined-append l r)
 
 module _ (made : Segments) (holds : Made made) where
-  pub made-joined : segmentsIn made ≡ joined (segmentsIn made)
+  made-joined : segmentsIn made ≡ joined (segmentsIn made)
   made-joined = ap segmentsIn holds ∙ segments-held (joined (segmentsIn made))
 
-  pub made-arrays : made ≡ segmentArrays (segmentsIn made)
+  made-arrays : made ≡ segmentArrays (segmentsIn made)
   made-arrays = holds ∙ ap segmentArrays (sym made-joined)
 
   made-apart : Apart (segmentsIn made)
@@ -74,14 +70,6 @@ module _ (made : Segments) (holds : Made made) where
       omega (arith, count-of made, ap (λ l. length l) made-joined, joined-le (segmentsIn made) r)
 
   module _ (s : Span ℕ) where
-    -- there is a last one where it is joined
-    pub some-made : joinsLast (segmentsIn made) s ≡ true → 0 < made .count
-    some-made e = by (ends (segmentsIn made)) (count-of made) e
-      where
-        by : {l : List (Span ℕ)} → Ends l → length l ≡ made .count → joinsLast l s ≡ true → 0 < made .count
-        by no-end c e = absurd (joinsLast-none s e)
-        by (end l t) c e = omega (arith, length-append l (t ∷ []))
-
     pub widened : joinsLast (segmentsIn made) s ≡ true
         → _≡_ {A = Segments}
         (record {

@@ -1,105 +1,62 @@
 -- From event to event: between two events the records that hold a frame do not change, so the frames of such a stretch have
 -- one value, or none, and join to one span. Assumes nothing.
 use Prim.Native.Nat.{ℕ, zero, suc, _+_, _-_, _≤_, _<_}
-use mathlib.Core.Bool.{true, _&&_}
+use mathlib.Core.Bool.{true, false}
 use mathlib.Core.List.{List, [], _∷_, _++_, foldr, append-assoc, foldr-append}
 use mathlib.Core.Option.{Option, none, some}
 use mathlib.Core.Path.{_≡_, refl, sym, ap, _∙_}
 use native.Mathlib.Omega.{arith}
 use native.Mathlib.Nat.{add-zero}
 use lib.Dec.{leb, ltb, eqb}
-use borrow.Author.Tests.{ltb-true, ltb-false, leb-true, leb-false, le-leb, lt-leb, lt-ltb, eq-eqb}
-use Rattle.model.specs.Common.{listFrom}
-use Rattle.model.specs.Spans.{Span, groupCount, frameCount, meets}
-use Rattle.model.specs.Log.{meeting, aggregated, value}
+use lib.ListN.{length}
+use borrow.Author.Tests.{ltb-true, ltb-false, leb-true, leb-false, le-leb, lt-leb, eq-eqb}
+use Rattle.model.specs.Spans.{Span}
+use Rattle.model.specs.Log.{aggregated}
 use Rattle.model.specs.Segments.{join, fuse, place, framesFrom}
-use Rattle.theory.proofs.Tests.{cases, and-true, true-and, true-adjacent}
-use Rattle.log.proofs.Columns.{listFrom-left}
-use Rattle.segments.specs.Steps.{nearer, nearerOf, nextEvent, joins, joined, tallied, tallyValue, nothing}
+use Rattle.theory.proofs.Tests.{cases, true-and, true-adjacent}
+use Rattle.segments.specs.Steps.{held, loadsAt, stopOf, stopAt, ownValue, joins, joined}
+use Rattle.segments.specs.declared.Own.{Own}
 use Rattle.segments.proofs.Joining.{fuse-join}
-use Rattle.segments.proofs.Tallies.{tally-count, tally-value}
+use Rattle.segments.proofs.Loads.{no-value}
 
--- ---- the next event
+-- ---- the frames up to the next event
 
-module _ (a event best : ℕ) where
-  nearer-le : nearer a event best ≤ best
-  unfolding nearer
-  nearer-le =
-      cases (ltb a event && ltb event best)
-      (λ e. rw e (omega (arith, ltb-true event best (and-true (ltb a event) (ltb event best) e .1)))) (λ e. rw e (omega arith))
-
-  nearer-behind : a < best → a < nearer a event best
-  unfolding nearer
-  nearer-behind lt =
-      cases (ltb a event && ltb event best)
-      (λ e. rw e (ltb-true a event (and-true (ltb a event) (ltb event best) e .0))) (λ e. rw e lt)
-
-  nearer-event : a < event → nearer a event best ≤ event
-  unfolding nearer
-  nearer-event lt =
-      rw (lt-ltb a event lt)
-      (cases (ltb event best) (λ e. rw e (omega arith)) (λ e. rw e (ltb-false event best e)))
-
-module _ (g a : ℕ) where
-  nearerOf-le : (best : ℕ) (r : Span ℕ) → nearerOf g a best r ≤ best
-  unfolding nearerOf
-  nearerOf-le best r =
-      cases (eqb (r .group) g)
-      (λ e. rw e (omega (arith, nearer-le a (suc (r .last)) (nearer a (r .first) best), nearer-le a (r .first) best)))
-      (λ e. rw e (omega arith))
-
-  nearerOf-behind : (best : ℕ) (r : Span ℕ) → a < best → a < nearerOf g a best r
-  unfolding nearerOf
-  nearerOf-behind best r lt =
-      cases (eqb (r .group) g)
-      (λ e. rw e (nearer-behind a (suc (r .last)) (nearer a (r .first) best) (nearer-behind a (r .first) best lt)))
-      (λ e. rw e lt)
-
-  pub nextEvent-le : (rs : List (Span ℕ)) (best : ℕ) → nextEvent rs g a best ≤ best
-  unfolding nextEvent
-  nextEvent-le [] best = omega arith
-  nextEvent-le (r ∷ rs) best = omega (arith, nextEvent-le rs (nearerOf g a best r), nearerOf-le best r)
-
-  pub nextEvent-behind : (rs : List (Span ℕ)) (best : ℕ) → a < best → a < nextEvent rs g a best
-  unfolding nextEvent
-  nextEvent-behind [] best lt = lt
-  nextEvent-behind (r ∷ rs) best lt = nextEvent-behind rs (nearerOf g a best r) (nearerOf-behind best r lt)
-
-  -- one record before the others
-  pub nextEvent-left : (h : ℕ → Span ℕ) (i count best : ℕ) → i < count
-      → nextEvent (listFrom i (count - i) h) g a best
-      ≡ nextEvent (listFrom (suc i) (count - suc i) h) g a (nearerOf g a best (h i))
-  unfolding nextEvent
-  nextEvent-left h i count best lt = ap (λ l. nextEvent l g a best) (listFrom-left h i count lt)
-
-  -- up to a record's next event it holds a frame or does not, as it does frame a
-  meets-same : (best f : ℕ) (r : Span ℕ) → a ≤ f → f < nearerOf g a best r → meets r g f f ≡ meets r g a a
-  unfolding meets nearerOf
-  meets-same best f r le lt =
-      cases (eqb (r .group) g) (λ e. rw e (both (rw e at lt))) (λ e. rw e)
+module _ (a f : ℕ) (from : a ≤ f) where
+  -- up to a record's stop it holds a frame or does not, as it does frame a
+  held-same : (r : Own) → f ≤ stopOf a r → held f r ≡ held a r
+  unfolding stopOf
+  held-same r near = cases (ltb a (r .first)) ahead begun
     where
-      both : f < nearer a (suc (r .last)) (nearer a (r .first) best)
-          → leb (r .first) f && leb f (r .last) ≡ leb (r .first) a && leb a (r .last)
-      both near =
-          let inner = nearer a (r .first) best in
-          let begun : leb (r .first) f ≡ leb (r .first) a =
-          cases (leb (r .first) a)
-          (λ e. rw (e, le-leb (r .first) f (omega (arith, leb-true (r .first) a e))))
-          (λ e. rw (e, lt-leb (r .first) f (omega (arith, nearer-le a (suc (r .last)) inner, nearer-event a (r .first) best (leb-false (r .first) a e))))) in
-          let ended : leb f (r .last) ≡ leb a (r .last) =
-          cases (leb a (r .last))
-          (λ e. rw (e, le-leb f (r .last) (omega (arith, nearer-event a (suc (r .last)) inner (omega (arith, leb-true a (r .last) e))))))
-          (λ e. rw (e, lt-leb f (r .last) (omega (arith, leb-false a (r .last) e)))) in
-          rw (begun, ended)
+      ahead : ltb a (r .first) ≡ true → held f r ≡ held a r
+      ahead e =
+          let behind = ltb-true a (r .first) e in
+          let before : f < r .first = omega (arith, rw e at near) in
+          rw (lt-leb (r .first) f before, lt-leb (r .first) a behind)
+
+      begun : ltb a (r .first) ≡ false → held f r ≡ held a r
+      begun e =
+          let first = ltb-false a (r .first) e in
+          rw (le-leb (r .first) f (omega arith), le-leb (r .first) a first)
+          (cases (leb a (r .last)) (λ h. rw (h, le-leb f (r .last) (rw (e, h) at near)))
+          (λ h. rw (h, lt-leb f (r .last) (omega (arith, leb-false a (r .last) h)))))
 
   -- so the records that hold a frame do not change
-  meeting-same : (rs : List (Span ℕ)) (best f : ℕ) → a ≤ f → f < nextEvent rs g a best
-      → meeting rs g f f ≡ meeting rs g a a
-  unfolding nextEvent meeting
-  meeting-same [] best f le lt = refl
-  meeting-same (r ∷ rs) best f le lt =
-      let near : f < nearerOf g a best r = omega (arith, nextEvent-le rs (nearerOf g a best r)) in
-      rw (meets-same best f r le near, meeting-same rs (nearerOf g a best r) f le lt)
+  loads-same : (own : List Own) → f ≤ stopAt a own → loadsAt f own ≡ loadsAt a own
+  unfolding stopAt loadsAt
+  loads-same [] near = refl
+  loads-same (r ∷ rs) near = rw (held-same r (omega arith), loads-same rs (omega arith))
+
+-- a stretch has its first frame
+stop-of-from : (a : ℕ) (r : Own) → a ≤ 65535 → a ≤ stopOf a r
+unfolding stopOf
+stop-of-from a r small =
+    cases (ltb a (r .first)) (λ e. rw e (omega (arith, ltb-true a (r .first) e)))
+    (λ e. rw e (cases (leb a (r .last)) (λ h. rw h (leb-true a (r .last) h)) (λ h. rw h small)))
+
+pub stop-from : (a : ℕ) (own : List Own) → a ≤ 65535 → a ≤ stopAt a own
+unfolding stopAt
+stop-from a [] small = small
+stop-from a (r ∷ rs) small = omega (arith, stop-of-from a r small, stop-from a rs small)
 
 -- ---- stretches of frames
 
@@ -129,7 +86,7 @@ module _ {A : Type 0} (val : ℕ → ℕ → Option A) (g : ℕ) where
       rw (p, q) (ap (place (val g f) g f) (frames-split (suc f) m n rest))
 
   -- frames in two parts
-  pub frames-parts : (a b end : ℕ) → a ≤ b → b ≤ end
+  frames-parts : (a b end : ℕ) → a ≤ b → b ≤ end
       → framesFrom val g a (end - a) [] ≡ framesFrom val g a (b - a) [] ++ framesFrom val g b (end - b) []
   frames-parts a b end ab be =
       let p : end - a ≡ b - a + (end - b) = omega arith in
@@ -182,51 +139,36 @@ frames-one val g v f (suc count) rest one =
 
 -- ---- the stretch up to the next event
 
-untallied : (kind : ℕ) (xs : List ℕ) → (tallied xs nothing) .count ≡ 0 → aggregated kind xs ≡ none
-unfolding aggregated nothing
-untallied kind [] c = refl
-untallied kind (x ∷ xs) c = absurd (omega (arith, tally-count (x ∷ xs) nothing))
-
-tallied-value : (kind : ℕ) (xs : List ℕ) → ((tallied xs nothing) .count ≡ 0 → ⊥)
-    → aggregated kind xs ≡ some (tallyValue kind (tallied xs nothing))
-unfolding aggregated tallied nothing
-tallied-value kind [] c = absurd (c refl)
-tallied-value kind (x ∷ xs) c = ap (λ v. some v) (sym (tally-value kind x xs))
-
-module _ (kind : ℕ) (rs : List (Span ℕ)) (g a b : ℕ) (in-groups : g < groupCount) (in-frames : a < frameCount)
-    (next : b ≡ nextEvent rs g a frameCount) where
-  pub next-behind : a < b
-  next-behind = rw next (nextEvent-behind g a rs frameCount in-frames)
-
-  pub next-within : b ≤ frameCount
-  next-within = rw next (nextEvent-le g a rs frameCount)
-
-  stretch-value : (f : ℕ) → a ≤ f → f < a + (b - a) → value kind rs g f ≡ aggregated kind (meeting rs g a a)
-  unfolding value
+module _ (kind : ℕ) (own : List Own) (g a : ℕ) (in-frames : a ≤ 65535) where
+  stretch-value : (f : ℕ) → a ≤ f → f < a + (suc (stopAt a own) - a)
+      → ownValue kind own g f ≡ aggregated kind (loadsAt a own)
+  unfolding ownValue
   stretch-value f le lt =
-      let near : f < b = omega arith in
-      rw (lt-ltb g groupCount in-groups, lt-ltb f frameCount (omega (arith, next-within)))
-      (ap (aggregated kind) (meeting-same g a rs frameCount f le (rw next at near)))
+      let near : f ≤ stopAt a own = omega (arith, stop-from a own in-frames) in
+      ap (aggregated kind) (loads-same a f le own near)
 
   -- no record holds its frames
-  pub stretch-none : (tallied (meeting rs g a a) nothing) .count ≡ 0 → framesFrom (value kind rs) g a (b - a) [] ≡ []
+  pub stretch-none : length (loadsAt a own) ≡ 0 → framesFrom (ownValue kind own) g a (suc (stopAt a own) - a) [] ≡ []
   stretch-none empty =
-      frames-none (value kind rs) g a (b - a) (λ e le lt. stretch-value e le lt ∙ untallied kind (meeting rs g a a) empty)
+      frames-none (ownValue kind own) g a (suc (stopAt a own) - a) (λ f le lt. stretch-value f le lt ∙ no-value kind (loadsAt a own) empty)
 
-  -- its frames have the value of what is gathered
-  pub stretch-one : (l : List (Span ℕ)) → ((tallied (meeting rs g a a) nothing) .count ≡ 0 → ⊥)
-      → joined (l ++ framesFrom (value kind rs) g a (b - a) [])
-      ≡ joined (l
-      ++ (record { group = g; first = a; last = b - 1; value = tallyValue kind (tallied (meeting rs g a a) nothing) } ∷ []))
+  -- its frames have the value of the first
+  pub stretch-one : (l : List (Span ℕ)) (v : ℕ) → aggregated kind (loadsAt a own) ≡ some v
+      → joined (l ++ framesFrom (ownValue kind own) g a (suc (stopAt a own) - a) [])
+      ≡ joined (l ++ (record { group = g; first = a; last = stopAt a own; value = v } ∷ []))
   unfolding joined fuse
-  stretch-one l some-record =
-      let count : b - a ≡ suc (b - suc a) = omega (arith, next-behind) in
-      let ended : a + (b - suc a) ≡ b - 1 = omega (arith, next-behind) in
-      let v = tallyValue kind (tallied (meeting rs g a a) nothing) in
-      let fused = frames-one (value kind rs) g v a (b - suc a) []
-      (λ e le lt. stretch-value e le (omega arith) ∙ tallied-value kind (meeting rs g a a) some-record) in
-      foldr-append (fuse eqb) [] l (framesFrom (value kind rs) g a (b - a) [])
-      ∙ ap (λ n. foldr (fuse eqb) (foldr (fuse eqb) [] (framesFrom (value kind rs) g a n [])) l) count
+  stretch-one l v found =
+      let count : suc (stopAt a own) - a ≡ suc (stopAt a own - a) = omega (arith, stop-from a own in-frames) in
+      let ended : a + (stopAt a own - a) ≡ stopAt a own = omega (arith, stop-from a own in-frames) in
+      let fused = frames-one (ownValue kind own) g v a (stopAt a own - a) []
+      (λ f le lt. stretch-value f le (omega arith) ∙ found) in
+      foldr-append (fuse eqb) [] l (framesFrom (ownValue kind own) g a (suc (stopAt a own) - a) [])
+      ∙ ap (λ n. foldr (fuse eqb) (foldr (fuse eqb) [] (framesFrom (ownValue kind own) g a n [])) l) count
       ∙ ap (λ r. foldr (fuse eqb) r l) fused
       ∙ ap (λ e. foldr (fuse eqb) (fuse eqb (record { group = g; first = a; last = e; value = v }) []) l) ended
-      ∙ sym (foldr-append (fuse eqb) [] l (record { group = g; first = a; last = b - 1; value = v } ∷ []))
+      ∙ sym (foldr-append (fuse eqb) [] l (record { group = g; first = a; last = stopAt a own; value = v } ∷ []))
+
+-- with no records there is no frame
+pub frames-unowned : (kind g f count : ℕ) → framesFrom (ownValue kind []) g f count [] ≡ []
+unfolding ownValue loadsAt aggregated
+frames-unowned kind g f count = frames-none (ownValue kind []) g f count (λ e le lt. refl)

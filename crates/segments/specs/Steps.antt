@@ -1,58 +1,67 @@
--- The steps from records to segments: the next event of a group, what the records that hold a frame tally to, spans that are
--- joined as far as they go, and what is measured of segments.
-use Prim.Native.Nat.{ℕ, zero, suc, _+_, _-_, min, max}
+-- The steps from records to segments: the records of one group, the last frame before their next event, the loads of those
+-- that hold a frame, and spans that are joined as far as they go.
+use Prim.Native.Nat.{ℕ, _-_, min}
 use mathlib.Core.Bool.{Bool, false, _&&_, cond}
 use mathlib.Core.List.{List, [], _∷_, _++_, foldr}
+use mathlib.Core.Option.{Option}
 use mathlib.Core.Path.{_≡_}
-use lib.Dec.{ltb, eqb}
-use lib.ListN.{length, replicate}
+use lib.Dec.{leb, ltb, eqb}
+use lib.ListN.{length, getD}
 use Rattle.model.specs.Common.{listFrom}
-use Rattle.model.specs.Spans.{Span, spanLength, adjacent}
+use Rattle.model.specs.Spans.{Span, adjacent}
+use Rattle.model.specs.Log.{sum, aggregated}
 use Rattle.model.specs.Segments.{fuse}
-use Rattle.model.specs.Blocks.{segmentAt, lastGap, runsTo}
 use Rattle.model.specs.Arrays.{segmentsIn, segmentArrays}
 use Rattle.model.specs.declared.Segment.{Segment}
 use Rattle.model.specs.declared.Segments.{Segments}
-use Rattle.segments.specs.declared.Tally.{Tally}
-use Rattle.segments.specs.declared.Measures.{Measures}
+use Rattle.segments.specs.declared.Own.{Own}
+use Rattle.segments.specs.declared.Here.{Here}
 
--- the nearer of two events behind frame a
-unfoldable pub nearer : ℕ → ℕ → ℕ → ℕ
-nearer a event best = cond (ltb a event && ltb event best) event best
+-- record i of the group, from a list for each field
+abbrev pub ownIn : List ℕ → List ℕ → List ℕ → ℕ → Own
+ownIn firsts lasts loads i = record { first = getD firsts i 0; last = getD lasts i 0; load = getD loads i 0 }
 
--- the same of a record's events: its first frame, and the frame after its last
-unfoldable pub nearerOf : ℕ → ℕ → ℕ → Span ℕ → ℕ
-nearerOf g a best r = cond (eqb (r .group) g) (nearer a (suc (r .last)) (nearer a (r .first) best)) best
+-- the first `count` of them
+abbrev pub ownsIn : List ℕ → List ℕ → List ℕ → ℕ → List Own
+ownsIn firsts lasts loads count = listFrom 0 count (ownIn firsts lasts loads)
 
--- the next event of group g behind frame a, `best` if there is none before it
-unfoldable pub nextEvent : List (Span ℕ) → ℕ → ℕ → ℕ → ℕ
-nextEvent [] g a best = best
-nextEvent (r ∷ rs) g a best = nextEvent rs g a (nearerOf g a best r)
+-- each list has 128 places
+abbrev pub Sized : List ℕ → List ℕ → List ℕ → Type 0
+Sized firsts lasts loads = (length firsts ≡ 128) × (length lasts ≡ 128) × (length loads ≡ 128)
 
--- no loads
-unfoldable pub nothing : Tally
-nothing = record { count = 0; sum = 0; least = 0; greatest = 0 }
+-- the records of group g
+unfoldable pub onlyOf : ℕ → List (Span ℕ) → List Own
+onlyOf g [] = []
+onlyOf g (r ∷ rs) =
+    cond (eqb (r .group) g)
+    (record { first = r .first; last = r .last; load = r .value } ∷ onlyOf g rs)
+    (onlyOf g rs)
 
--- the least with one load more
-unfoldable pub leastWith : Tally → ℕ → ℕ
-leastWith t x = cond (eqb (t .count) 0) x (min (t .least) x)
+-- the record holds frame a
+abbrev pub held : ℕ → Own → Bool
+held a r = leb (r .first) a && leb a (r .last)
 
--- one load more
-unfoldable pub counted : Tally → ℕ → Tally
-counted t x = record { count = t .count + 1; sum = t .sum + x; least = leastWith t x; greatest = max (t .greatest) x }
+-- the loads of the records that hold frame a
+unfoldable pub loadsAt : ℕ → List Own → List ℕ
+loadsAt a [] = []
+loadsAt a (r ∷ rs) = cond (held a r) (r .load ∷ loadsAt a rs) (loadsAt a rs)
 
--- what loads tally to, on top of a tally
-unfoldable pub tallied : List ℕ → Tally → Tally
-tallied [] t = t
-tallied (x ∷ xs) t = tallied xs (counted t x)
+-- the last frame up to which the record holds each frame from a on, or holds none of them
+unfoldable pub stopOf : ℕ → Own → ℕ
+stopOf a r = cond (ltb a (r .first)) (r .first - 1) (cond (leb a (r .last)) (r .last) 65535)
 
--- the value by the kind
-unfoldable pub tallyValue : ℕ → Tally → ℕ
-tallyValue zero t = t .sum
-tallyValue (suc zero) t = t .count
-tallyValue (suc (suc zero)) t = t .least
-tallyValue (suc (suc (suc zero))) t = t .greatest
-tallyValue (suc (suc (suc (suc k)))) t = 0
+-- the same of all records: the last frame before the next event behind frame a, 65,535 if there is none
+unfoldable pub stopAt : ℕ → List Own → ℕ
+stopAt a [] = 65535
+stopAt a (r ∷ rs) = min (stopOf a r) (stopAt a rs)
+
+-- what is found at frame a
+unfoldable pub surveyed : ℕ → List Own → Here
+surveyed a own = record { stop = stopAt a own; count = length (loadsAt a own); sum = sum (loadsAt a own) }
+
+-- the value of a frame by the records of its group alone
+unfoldable pub ownValue : ℕ → List Own → ℕ → ℕ → Option ℕ
+ownValue kind own g f = aggregated kind (loadsAt f own)
 
 -- the first span is adjacent to the second and equal to it in value
 unfoldable pub joins : Span ℕ → Span ℕ → Bool
@@ -62,31 +71,24 @@ joins s t = adjacent s t && eqb (s .value) (t .value)
 unfoldable pub joined : List (Span ℕ) → List (Span ℕ)
 joined spans = foldr (fuse eqb) [] spans
 
-unfoldable pub segmentSpan : Segment → Span ℕ
-segmentSpan s = record { group = s .group; first = s .first; last = s .last; value = s .value }
-
--- the arrays hold joined spans, and zeros past them
-abbrev pub Made : Segments → Type 0
-Made s = s ≡ segmentArrays (joined (segmentsIn s))
-
 -- a span that comes behind others is adjacent to the last of them and equal to it in value
 unfoldable pub joinsLast : List (Span ℕ) → Span ℕ → Bool
 joinsLast [] s = false
 joinsLast (t ∷ []) s = joins t s
 joinsLast (t ∷ u ∷ spans) s = joinsLast (u ∷ spans) s
 
--- `size` places: h 0, h 1, .., `count` of them, then zeros
-unfoldable pub filled : ℕ → ℕ → (ℕ → ℕ) → List ℕ
-filled size count h = listFrom 0 count h ++ replicate (size - count) 0
+unfoldable pub segmentSpan : Segment → Span ℕ
+segmentSpan s = record { group = s .group; first = s .first; last = s .last; value = s .value }
 
--- of the first n segments: the length of each; the last gap below each number from 0 to n; the runs that begin among them
-unfoldable pub measuredTo : List (Span ℕ) → ℕ → Measures
-measuredTo segs n =
-    record {
-      lengths = filled 255 n (λ i. spanLength (segmentAt segs i));
-      gaps = filled 256 (suc n) (lastGap (segmentAt segs));
-      runs = runsTo (segmentAt segs) n;
-    }
+-- segments in four arrays
+abbrev pub arraysOf : List ℕ → List ℕ → List ℕ → List ℕ → ℕ → Segments
+arraysOf groups firsts lasts values count =
+    record { groups = groups; firsts = firsts; lasts = lasts; values = values; count = count }
 
-unfoldable pub measured : List (Span ℕ) → Measures
-measured segs = measuredTo segs (length segs)
+-- the arrays hold joined spans, and zeros past them
+abbrev pub Made : Segments → Type 0
+Made s = s ≡ segmentArrays (joined (segmentsIn s))
+
+-- made segments with spans behind them, joined
+abbrev pub behind : Segments → List (Span ℕ) → List (Span ℕ)
+behind made spans = joined (segmentsIn made ++ spans)

@@ -1,33 +1,38 @@
-// Instant temporal aggregation: from a log's records to its segments, group by group and from event to event, and what is
-// measured of segments. An event is a record's first frame or the frame after its last.
+// Instant temporal aggregation: from a log's records to its segments, group by group and from event to event. An event is a
+// record's first frame or the frame after its last. The records of a group are put side by side first: the loops over them then
+// have no branch, and the compiler works on eight records at a time. Arrays are lent and never copied.
 
 use model::Asked;
-use model::Record;
-use model::Records;
 use model::Refusal;
 use model::Segment;
 use model::Segments;
 use model::SegmentsAnswer;
 ghost use mathlib.Core.Path.{_≡_};
 ghost use mathlib.Core.List.{[], _∷_, _++_};
+ghost use mathlib.Core.Option.{some};
 ghost use mathlib.Core.Bool.{cond};
-ghost use Prim.Native.Nat.{suc, _+_, _-_, _*_, _<_, _≤_, max};
+ghost use Prim.Native.Nat.{ℕ, suc, _+_, _-_, _<_, _≤_, min, max};
 ghost use lib.ListN.{length};
-ghost use Rattle.model.specs.Spans.{groupCount, frameCount, holds, adjacent};
-ghost use Rattle.model.specs.Log.{meeting, value};
+ghost use Rattle.model.specs.Spans.{frameCount};
+ghost use Rattle.model.specs.Log.{aggregated};
 ghost use Rattle.model.specs.Segments.{framesFrom, segments};
-ghost use Rattle.model.specs.Blocks.{gap, segmentAt};
-ghost use Rattle.model.specs.Questions.{refused, lent, segmentsQuestions, mostRecords, mostSegments};
-ghost use Rattle.model.specs.Calls.{recordSpan, segmentsCase, segmentsOutcome, logSegments};
-ghost use Rattle.model.specs.Arrays.{spanIn, recordsIn, segmentsIn, segmentArrays};
-ghost use Rattle.segments.specs.Steps.{nearer, nearerOf, nextEvent, nothing, leastWith, tallied, tallyValue, joined, joinsLast, segmentSpan, Made, measured};
+ghost use Rattle.model.specs.Questions.{refused, lent, segmentsQuestions, mostRecords};
+ghost use Rattle.model.specs.Calls.{segmentsCase, segmentsOutcome, logSegments};
+ghost use Rattle.model.specs.Arrays.{spansIn, segmentArrays};
+ghost use Rattle.segments.specs.Steps.{ownIn, ownsIn, Sized, onlyOf, held, loadsAt, stopOf, surveyed, ownValue, joins, segmentSpan, arraysOf, Made, behind};
 
-// What the loads of some records tally to.
-pub struct Tally {
-    pub count: u32,
+// A record of the group in hand.
+pub struct Own {
+    pub first: u16,
+    pub last: u16,
+    pub load: u16,
+}
+
+// What is found at a frame: the last frame before the next event, how many records hold the frame, and the sum of their loads.
+pub struct Here {
+    pub stop: u16,
+    pub count: u16,
     pub sum: u32,
-    pub least: u32,
-    pub greatest: u32,
 }
 
 // The segment call's answer, and the segments beside it: none in a refusal.
@@ -36,14 +41,7 @@ pub struct Found {
     pub segments: Segments,
 }
 
-// The length of each segment, the last gap below each number up to that of the segments, and the runs.
-pub struct Measures {
-    pub lengths: [u32; 255],
-    pub gaps: [u8; 256],
-    pub runs: usize,
-}
-
-// A frame or a load as a wider number.
+// A frame, a load or a count as a wider number.
 fn wide(x: u16) -> u32
     ensures { λ r. ⌜ r ≡ x ⌝ }
 {
@@ -57,278 +55,384 @@ fn after(frame: u16) -> u32
     wide(frame) + 1
 }
 
+// The lower of two numbers.
+fn lower(x: u16, y: u16) -> u16
+    ensures { λ r. ⌜ r ≡ min x y ⌝ }
+{
+    if x < y { x } else { y }
+}
+
+// The higher of two numbers.
+fn higher(x: u16, y: u16) -> u16
+    ensures { λ r. ⌜ r ≡ max x y ⌝ }
+{
+    if x < y { y } else { x }
+}
+
+// The first number where the test holds, else the second.
+fn pick(test: bool, x: u16, y: u16) -> u16
+    ensures { λ r. ⌜ r ≡ cond test x y ⌝ }
+{
+    if test { x } else { y }
+}
+
 // The record at a place.
-fn record_in<'a>(
-    groups: &'a [u8; 128],
+fn record_at<'a>(
     firsts: &'a [u16; 128],
     lasts: &'a [u16; 128],
     loads: &'a [u16; 128],
     index: usize,
-) -> Record
-    requires { ⌜ index < mostRecords ⌝ }
-    ensures { λ r. ⌜ recordSpan r ≡ spanIn (now (groups .entry)) (now (firsts .entry)) (now (lasts .entry)) (now (loads .entry)) index ⌝ }
+) -> Own
+    requires { ⌜ index < 128 ⌝ }
+    ensures { λ r. ⌜ r ≡ ownIn (now (firsts .entry)) (now (lasts .entry)) (now (loads .entry)) index ⌝ }
 {
-    Record {
-        group: groups[index],
+    Own {
         first: firsts[index],
         last: lasts[index],
         load: loads[index],
     }
 }
 
-// The nearer of two events behind a frame.
-fn nearer_event(a: u32, event: u32, best: u32) -> u32
-    ensures { λ r. ⌜ r ≡ nearer a event best ⌝ }
+// Puts a record behind those of the group where it is one of them, and tells how many they are then.
+fn keep(
+    own_firsts: &mut [u16; 128],
+    own_lasts: &mut [u16; 128],
+    own_loads: &mut [u16; 128],
+    own: usize,
+    record: Own,
+    chosen: bool,
+) -> usize
+    requires { ⌜ (own < 128) × Sized (now «own_firsts») (now «own_lasts») (now «own_loads») ⌝ }
+    ensures { λ r. ⌜ (r ≤ own + 1) × Sized (now («own_firsts» .exit)) (now («own_lasts» .exit)) (now («own_loads» .exit)) ⌝ }
+    ensures { λ r. ⌜ ownsIn (now («own_firsts» .exit)) (now («own_lasts» .exit)) (now («own_loads» .exit)) r ≡ ownsIn (now («own_firsts» .entry)) (now («own_lasts» .entry)) (now («own_loads» .entry)) own ++ cond chosen («record» ∷ []) [] ⌝ }
 {
-    if a < event {
-        if event < best {
-            return event;
-        }
+    if chosen {
+        own_firsts[own] = record.first;
+        own_lasts[own] = record.last;
+        own_loads[own] = record.load;
+        return own + 1;
     }
-    best
+    own
 }
 
-// The same of a record's events.
-fn nearer_of(record: Record, group: u8, a: u32, best: u32) -> u32
-    ensures { λ r. ⌜ r ≡ nearerOf group a best (recordSpan «record») ⌝ }
+// Puts the records of a group side by side, and tells how many they are.
+fn select<'a>(
+    groups: &'a [u8; 128],
+    firsts: &'a [u16; 128],
+    lasts: &'a [u16; 128],
+    loads: &'a [u16; 128],
+    count: usize,
+    group: u8,
+    own_firsts: &mut [u16; 128],
+    own_lasts: &mut [u16; 128],
+    own_loads: &mut [u16; 128],
+) -> usize
+    requires { ⌜ (count ≤ 128) × Sized (now «own_firsts») (now «own_lasts») (now «own_loads») ⌝ }
+    ensures { λ r. ⌜ (r ≤ 128) × Sized (now («own_firsts» .exit)) (now («own_lasts» .exit)) (now («own_loads» .exit)) ⌝ }
+    ensures { λ r. ⌜ ownsIn (now («own_firsts» .exit)) (now («own_lasts» .exit)) (now («own_loads» .exit)) r ≡ onlyOf group (spansIn (now (groups .entry)) (now (firsts .entry)) (now (lasts .entry)) (now (loads .entry)) count) ⌝ }
 {
-    if record.group != group {
-        return best;
-    }
-    let begins = nearer_event(a, wide(record.first), best);
-    nearer_event(a, after(record.last), begins)
-}
-
-// The next event of a group behind a frame, 65,536 if there is none.
-fn next_event(records: Records, group: u8, a: u32) -> u32
-    requires { ⌜ records .count ≤ mostRecords ⌝ }
-    ensures { λ r. ⌜ r ≡ nextEvent (recordsIn records) group a frameCount ⌝ }
-{
-    let count = records.count;
-    let mut best: u32 = 65536;
-    for index in 0..count {
-        let record = record_in(
-            &records.groups,
-            &records.firsts,
-            &records.lasts,
-            &records.loads,
-            index,
+    let mut own: usize = 0;
+    let mut index: usize = 0;
+    while index < count {
+        let record = record_at(firsts, lasts, loads, index);
+        own = keep(
+            own_firsts,
+            own_lasts,
+            own_loads,
+            own,
+            record,
+            groups[index] == group,
         );
-        best = nearer_of(record, group, a, best);
+        index += 1;
     }
-    best
+    own
 }
 
-// The least of a tally with one load more.
-fn least_with(tally: Tally, load: u32) -> u32
-    ensures { λ r. ⌜ r ≡ leastWith tally load ⌝ }
+// Whether a record holds frame a.
+fn holds(record: Own, a: u16) -> bool
+    ensures { λ r. ⌜ r ≡ held a «record» ⌝ }
 {
-    if tally.count == 0 {
-        return load;
-    }
-    if load < tally.least {
-        load
-    } else {
-        tally.least
-    }
+    (record.first <= a) & (a <= record.last)
 }
 
-// The higher of two numbers.
-fn higher(x: u32, y: u32) -> u32
-    ensures { λ r. ⌜ r ≡ max x y ⌝ }
+// The last frame up to which a record holds each frame from a on, or holds none of them.
+fn stop_of(record: Own, a: u16) -> u16
+    ensures { λ r. ⌜ r ≡ stopOf a «record» ⌝ }
 {
-    if x < y { y } else { x }
+    if a < record.first {
+        return record.first - 1;
+    }
+    if a <= record.last {
+        return record.last;
+    }
+    65535
 }
 
-// Whether a record is of a group and holds a frame.
-fn holds_frame(record: Record, group: u8, a: u32) -> bool
-    ensures { λ r. ⌜ r ≡ holds (recordSpan «record») group a ⌝ }
+// The last frame before the next event behind frame a, and the count and sum of the records that hold the frame. The sum is kept
+// as those of the loads' lower and upper bytes, which both fit 16 bits.
+fn survey<'a>(
+    firsts: &'a [u16; 128],
+    lasts: &'a [u16; 128],
+    loads: &'a [u16; 128],
+    own: usize,
+    a: u16,
+) -> Here
+    requires { ⌜ own ≤ 128 ⌝ }
+    ensures { λ r. ⌜ r ≡ surveyed a (ownsIn (now (firsts .entry)) (now (lasts .entry)) (now (loads .entry)) own) ⌝ }
 {
-    if record.group != group {
-        return false;
+    let mut stop: u16 = 65535;
+    let mut count: u16 = 0;
+    let mut low: u16 = 0;
+    let mut high: u16 = 0;
+    let mut index: usize = 0;
+    while index < own {
+        let record = record_at(firsts, lasts, loads, index);
+        let held = holds(record, a);
+        let load = pick(held, record.load, 0);
+        stop = lower(stop, stop_of(record, a));
+        count += held as u16;
+        low += load % 256;
+        high += load / 256;
+        index += 1;
     }
-    if a < wide(record.first) {
-        return false;
+    Here {
+        stop,
+        count,
+        sum: wide(low) + 256 * wide(high),
     }
-    a <= wide(record.last)
 }
 
-// A tally with a record's load, where the record is of the group and holds the frame.
-fn tally_record(tally: Tally, record: Record, group: u8, a: u32) -> Tally
-    requires { ⌜ (tally .count < mostRecords) × (tally .sum ≤ 65535 * tally .count) ⌝ }
-    ensures { λ r. ⌜ r ≡ tallied (meeting (recordSpan «record» ∷ []) group a a) tally ⌝ }
+// The least load of the records that hold frame a, where some record does.
+fn least<'a>(
+    firsts: &'a [u16; 128],
+    lasts: &'a [u16; 128],
+    loads: &'a [u16; 128],
+    own: usize,
+    a: u16,
+) -> u16
+    requires { ⌜ own ≤ 128 ⌝ }
+    requires { ⌜ (length (loadsAt a (ownsIn (now firsts) (now lasts) (now loads) own)) ≡ 0 → ⊥) ⌝ }
+    ensures { λ r. ⌜ aggregated 2 (loadsAt a (ownsIn (now (firsts .entry)) (now (lasts .entry)) (now (loads .entry)) own)) ≡ some r ⌝ }
 {
-    let load = wide(record.load);
-    if holds_frame(record, group, a) {
-        return Tally {
-            count: tally.count + 1,
-            sum: tally.sum + load,
-            least: least_with(tally, load),
-            greatest: higher(tally.greatest, load),
-        };
+    let mut found: u16 = 65535;
+    let mut index: usize = 0;
+    while index < own {
+        let record = record_at(firsts, lasts, loads, index);
+        found = lower(found, pick(holds(record, a), record.load, 65535));
+        index += 1;
     }
-    tally
+    found
 }
 
-// What the records of a group that hold a frame tally to.
-fn gather(records: Records, group: u8, a: u32) -> Tally
-    requires { ⌜ records .count ≤ mostRecords ⌝ }
-    ensures { λ r. ⌜ r ≡ tallied (meeting (recordsIn records) group a a) nothing ⌝ }
+// The greatest load of the records that hold frame a, where some record does.
+fn greatest<'a>(
+    firsts: &'a [u16; 128],
+    lasts: &'a [u16; 128],
+    loads: &'a [u16; 128],
+    own: usize,
+    a: u16,
+) -> u16
+    requires { ⌜ own ≤ 128 ⌝ }
+    requires { ⌜ (length (loadsAt a (ownsIn (now firsts) (now lasts) (now loads) own)) ≡ 0 → ⊥) ⌝ }
+    ensures { λ r. ⌜ aggregated 3 (loadsAt a (ownsIn (now (firsts .entry)) (now (lasts .entry)) (now (loads .entry)) own)) ≡ some r ⌝ }
 {
-    let count = records.count;
-    let mut tally = Tally {
-        count: 0,
-        sum: 0,
-        least: 0,
-        greatest: 0,
-    };
-    for index in 0..count {
-        let record = record_in(
-            &records.groups,
-            &records.firsts,
-            &records.lasts,
-            &records.loads,
-            index,
-        );
-        let next = tally_record(tally, record, group, a);
-        tally = next;
+    let mut found: u16 = 0;
+    let mut index: usize = 0;
+    while index < own {
+        let record = record_at(firsts, lasts, loads, index);
+        found = higher(found, pick(holds(record, a), record.load, 0));
+        index += 1;
     }
-    tally
+    found
 }
 
-// The value of a tally by the kind.
-fn value_of(tally: Tally, kind: u8) -> u32
-    ensures { λ r. ⌜ r ≡ tallyValue kind tally ⌝ }
+// The value of frame a by the kind, where some record holds the frame.
+fn value_at<'a>(
+    kind: u8,
+    here: Here,
+    firsts: &'a [u16; 128],
+    lasts: &'a [u16; 128],
+    loads: &'a [u16; 128],
+    own: usize,
+    a: u16,
+) -> u32
+    requires { ⌜ own ≤ 128 ⌝ }
+    requires { ⌜ here ≡ surveyed a (ownsIn (now firsts) (now lasts) (now loads) own) ⌝ }
+    requires { ⌜ (length (loadsAt a (ownsIn (now firsts) (now lasts) (now loads) own)) ≡ 0 → ⊥) ⌝ }
+    ensures { λ r. ⌜ aggregated kind (loadsAt a (ownsIn (now (firsts .entry)) (now (lasts .entry)) (now (loads .entry)) own)) ≡ some r ⌝ }
 {
     match kind {
-        0 => tally.sum,
-        1 => tally.count,
-        2 => tally.least,
-        3 => tally.greatest,
+        0 => here.sum,
+        1 => wide(here.count),
+        2 => wide(least(firsts, lasts, loads, own, a)),
+        3 => wide(greatest(firsts, lasts, loads, own, a)),
         _ => 0,
     }
 }
 
-// No segments.
-fn empty() -> Segments
-    ensures { λ r. ⌜ r ≡ segmentArrays [] ⌝ }
+// Whether a segment is adjacent to one with this group, last frame and value, and equal to it in value.
+fn joins(group: u8, last: u16, value: u32, segment: Segment) -> bool
+    ensures { λ r. ⌜ ((first : ℕ) → r ≡ joins (record { group = group; first = first; last = last; value = value }) (segmentSpan segment)) ⌝ }
 {
-    Segments {
-        groups: [0u8; 255],
-        firsts: [0u16; 255],
-        lasts: [0u16; 255],
-        values: [0u32; 255],
-        count: 0,
-    }
+    (group == segment.group) & (after(last) == wide(segment.first)) & (value == segment.value)
 }
 
-// The segment at a place.
-fn segment_in(segments: Segments, index: usize) -> Segment
-    requires { ⌜ index < mostSegments ⌝ }
-    ensures { λ r. ⌜ segmentSpan r ≡ spanIn (segments .groups) (segments .firsts) (segments .lasts) (segments .values) index ⌝ }
+// Puts a segment behind those made, or joins it to the last of them where the two are adjacent and equal in value, and tells how
+// many they are then.
+fn extend(
+    groups: &mut [u8; 255],
+    firsts: &mut [u16; 255],
+    lasts: &mut [u16; 255],
+    values: &mut [u32; 255],
+    count: usize,
+    segment: Segment,
+) -> usize
+    requires { ⌜ Made (arraysOf (now groups) (now firsts) (now lasts) (now values) count) ⌝ }
+    requires { ⌜ length (behind (arraysOf (now groups) (now firsts) (now lasts) (now values) count) (segmentSpan segment ∷ [])) ≤ 255 ⌝ }
+    ensures { λ r. ⌜ arraysOf (now (groups .exit)) (now (firsts .exit)) (now (lasts .exit)) (now (values .exit)) r ≡ segmentArrays (behind (arraysOf (now (groups .entry)) (now (firsts .entry)) (now (lasts .entry)) (now (values .entry)) count) (segmentSpan segment ∷ [])) ⌝ }
 {
-    Segment {
-        group: segments.groups[index],
-        first: segments.firsts[index],
-        last: segments.lasts[index],
-        value: segments.values[index],
+    if count != 0 {
+        let place = count - 1;
+        if joins(groups[place], lasts[place], values[place], segment) {
+            lasts[place] = segment.last;
+            return count;
+        }
     }
+    groups[count] = segment.group;
+    firsts[count] = segment.first;
+    lasts[count] = segment.last;
+    values[count] = segment.value;
+    count + 1
 }
 
-// Whether the second of two segments is adjacent to the first.
-fn follows(left: Segment, right: Segment) -> bool
-    ensures { λ r. ⌜ r ≡ adjacent (segmentSpan left) (segmentSpan right) ⌝ }
+// Puts the frames from a up to the next event behind the segments made: all have the same value, or none.
+fn add_stretch<'a>(
+    kind: u8,
+    here: Here,
+    own_firsts: &'a [u16; 128],
+    own_lasts: &'a [u16; 128],
+    own_loads: &'a [u16; 128],
+    own: usize,
+    group: u8,
+    a: u16,
+    groups: &mut [u8; 255],
+    firsts: &mut [u16; 255],
+    lasts: &mut [u16; 255],
+    values: &mut [u32; 255],
+    count: usize,
+) -> usize
+    requires { ⌜ own ≤ 128 ⌝ }
+    requires { ⌜ here ≡ surveyed a (ownsIn (now «own_firsts») (now «own_lasts») (now «own_loads») own) ⌝ }
+    requires { ⌜ Made (arraysOf (now groups) (now firsts) (now lasts) (now values) count) ⌝ }
+    requires { ⌜ length (behind (arraysOf (now groups) (now firsts) (now lasts) (now values) count) (framesFrom (ownValue kind (ownsIn (now «own_firsts») (now «own_lasts») (now «own_loads») own)) group a (suc (here .stop) - a) [])) ≤ 255 ⌝ }
+    ensures { λ r. ⌜ arraysOf (now (groups .exit)) (now (firsts .exit)) (now (lasts .exit)) (now (values .exit)) r ≡ segmentArrays (behind (arraysOf (now (groups .entry)) (now (firsts .entry)) (now (lasts .entry)) (now (values .entry)) count) (framesFrom (ownValue kind (ownsIn (now («own_firsts» .entry)) (now («own_lasts» .entry)) (now («own_loads» .entry)) own)) group a (suc (here .stop) - a) [])) ⌝ }
 {
-    if left.group != right.group {
-        return false;
-    }
-    after(left.last) == wide(right.first)
-}
-
-// Whether a segment is adjacent to the last of those made and equal to it in value.
-fn joins_last(made: Segments, segment: Segment) -> bool
-    requires { ⌜ made .count ≤ mostSegments ⌝ }
-    ensures { λ r. ⌜ r ≡ joinsLast (segmentsIn made) (segmentSpan segment) ⌝ }
-{
-    let count = made.count;
-    if count == 0 {
-        return false;
-    }
-    let last = segment_in(made, count - 1);
-    if last.value != segment.value {
-        return false;
-    }
-    follows(last, segment)
-}
-
-// A segment behind those made, joined to the last of them where the two are adjacent and equal in value.
-fn extend(made: Segments, segment: Segment) -> Segments
-    requires { ⌜ Made made ⌝ }
-    requires { ⌜ length (joined (segmentsIn made ++ (segmentSpan segment ∷ []))) ≤ mostSegments ⌝ }
-    ensures { λ r. ⌜ r ≡ segmentArrays (joined (segmentsIn made ++ (segmentSpan segment ∷ []))) ⌝ }
-{
-    let count = made.count;
-    let mut next = made;
-    if joins_last(made, segment) {
-        next.lasts[count - 1] = segment.last;
-        return next;
-    }
-    next.groups[count] = segment.group;
-    next.firsts[count] = segment.first;
-    next.lasts[count] = segment.last;
-    next.values[count] = segment.value;
-    next.count = count + 1;
-    next
-}
-
-// The frames from a up to the next event b, b not included, behind the segments made: all have the same value, or none.
-fn add_stretch(records: Records, kind: u8, group: u8, a: u32, b: u32, made: Segments) -> Segments
-    requires { ⌜ (records .count ≤ mostRecords) × (group < groupCount) × (a < frameCount) ⌝ }
-    requires { ⌜ b ≡ nextEvent (recordsIn records) group a frameCount ⌝ }
-    requires { ⌜ Made made ⌝ }
-    requires { ⌜ length (joined (segmentsIn made ++ framesFrom (value kind (recordsIn records)) group a (b - a) [])) ≤ mostSegments ⌝ }
-    ensures { λ r. ⌜ r ≡ segmentArrays (joined (segmentsIn made ++ framesFrom (value kind (recordsIn records)) group a (b - a) [])) ⌝ }
-{
-    let tally = gather(records, group, a);
-    if tally.count == 0 {
-        return made;
+    if here.count == 0 {
+        return count;
     }
     let segment = Segment {
         group,
-        first: a as u16,
-        last: (b - 1) as u16,
-        value: value_of(tally, kind),
+        first: a,
+        last: here.stop,
+        value: value_at(kind, here, own_firsts, own_lasts, own_loads, own, a),
     };
-    extend(made, segment)
+    extend(groups, firsts, lasts, values, count, segment)
 }
 
-// The segments of one group behind those made.
-fn find_group(records: Records, kind: u8, group: u8, made: Segments) -> Segments
-    requires { ⌜ (records .count ≤ mostRecords) × (group < groupCount) ⌝ }
-    requires { ⌜ Made made ⌝ }
-    requires { ⌜ length (joined (segmentsIn made ++ framesFrom (value kind (recordsIn records)) group 0 frameCount [])) ≤ mostSegments ⌝ }
-    ensures { λ r. ⌜ r ≡ segmentArrays (joined (segmentsIn made ++ framesFrom (value kind (recordsIn records)) group 0 frameCount [])) ⌝ }
+// Puts the segments of one group behind those made, from the group's records.
+fn find_group<'a>(
+    kind: u8,
+    own_firsts: &'a [u16; 128],
+    own_lasts: &'a [u16; 128],
+    own_loads: &'a [u16; 128],
+    own: usize,
+    group: u8,
+    groups: &mut [u8; 255],
+    firsts: &mut [u16; 255],
+    lasts: &mut [u16; 255],
+    values: &mut [u32; 255],
+    count: usize,
+) -> usize
+    requires { ⌜ own ≤ 128 ⌝ }
+    requires { ⌜ Made (arraysOf (now groups) (now firsts) (now lasts) (now values) count) ⌝ }
+    requires { ⌜ length (behind (arraysOf (now groups) (now firsts) (now lasts) (now values) count) (framesFrom (ownValue kind (ownsIn (now «own_firsts») (now «own_lasts») (now «own_loads») own)) group 0 frameCount [])) ≤ 255 ⌝ }
+    ensures { λ r. ⌜ arraysOf (now (groups .exit)) (now (firsts .exit)) (now (lasts .exit)) (now (values .exit)) r ≡ segmentArrays (behind (arraysOf (now (groups .entry)) (now (firsts .entry)) (now (lasts .entry)) (now (values .entry)) count) (framesFrom (ownValue kind (ownsIn (now («own_firsts» .entry)) (now («own_lasts» .entry)) (now («own_loads» .entry)) own)) group 0 frameCount [])) ⌝ }
 {
-    let mut next = made;
-    let mut a: u32 = 0;
-    while a < 65536 {
-        let b = next_event(records, group, a);
-        let more = add_stretch(records, kind, group, a, b, next);
-        next = more;
-        a = b;
+    if own == 0 {
+        return count;
     }
-    next
+    let mut made = count;
+    let mut a: u16 = 0;
+    loop {
+        let here = survey(own_firsts, own_lasts, own_loads, own, a);
+        made = add_stretch(
+            kind,
+            here,
+            own_firsts,
+            own_lasts,
+            own_loads,
+            own,
+            group,
+            a,
+            groups,
+            firsts,
+            lasts,
+            values,
+            made,
+        );
+        if here.stop == 65535 {
+            return made;
+        }
+        a = here.stop + 1;
+    }
 }
 
-// The segments of records, by group and then by first frame.
-pub fn find(records: Records, kind: u8) -> Segments
-    requires { ⌜ records .count ≤ mostRecords ⌝ }
-    ensures { λ r. ⌜ r ≡ segmentArrays (segments kind (recordsIn records)) ⌝ }
+// The segments of records, by group and then by first frame, into arrays of zeros; tells how many they are.
+pub fn find<'a>(
+    groups: &'a [u8; 128],
+    firsts: &'a [u16; 128],
+    lasts: &'a [u16; 128],
+    loads: &'a [u16; 128],
+    count: usize,
+    kind: u8,
+    to_groups: &mut [u8; 255],
+    to_firsts: &mut [u16; 255],
+    to_lasts: &mut [u16; 255],
+    to_values: &mut [u32; 255],
+) -> usize
+    requires { ⌜ count ≤ mostRecords ⌝ }
+    requires { ⌜ arraysOf (now «to_groups») (now «to_firsts») (now «to_lasts») (now «to_values») 0 ≡ segmentArrays [] ⌝ }
+    ensures { λ r. ⌜ arraysOf (now («to_groups» .exit)) (now («to_firsts» .exit)) (now («to_lasts» .exit)) (now («to_values» .exit)) r ≡ segmentArrays (segments kind (spansIn (now (groups .entry)) (now (firsts .entry)) (now (lasts .entry)) (now (loads .entry)) count)) ⌝ }
 {
-    let mut made = empty();
+    let mut own_firsts = [0u16; 128];
+    let mut own_lasts = [0u16; 128];
+    let mut own_loads = [0u16; 128];
+    let mut made: usize = 0;
     for group in 0..8 {
-        let more = find_group(records, kind, group, made);
-        made = more;
+        let own = select(
+            groups,
+            firsts,
+            lasts,
+            loads,
+            count,
+            group,
+            &mut own_firsts,
+            &mut own_lasts,
+            &mut own_loads,
+        );
+        made = find_group(
+            kind,
+            &own_firsts,
+            &own_lasts,
+            &own_loads,
+            own,
+            group,
+            to_groups,
+            to_firsts,
+            to_lasts,
+            to_values,
+            made,
+        );
     }
     made
 }
@@ -339,7 +443,13 @@ fn refuse(question: u8, index: usize) -> Found
 {
     Found {
         answer: SegmentsAnswer::Refused(Refusal { question, index }),
-        segments: empty(),
+        segments: Segments {
+            groups: [0u8; 255],
+            firsts: [0u16; 255],
+            lasts: [0u16; 255],
+            values: [0u32; 255],
+            count: 0,
+        },
     }
 }
 
@@ -356,73 +466,35 @@ pub fn find_in_log(log: &[u8], kind: u8, places: usize) -> Found
     }
     match log::ask(log) {
         Asked::Passed => {
-            let segments = find(log::decode(log), kind);
-            let count = segments.count;
+            let records = log::decode(log);
+            let record_count = records.count;
+            let mut groups = [0u8; 255];
+            let mut firsts = [0u16; 255];
+            let mut lasts = [0u16; 255];
+            let mut values = [0u32; 255];
+            let count = find(
+                &records.groups,
+                &records.firsts,
+                &records.lasts,
+                &records.loads,
+                record_count,
+                kind,
+                &mut groups,
+                &mut firsts,
+                &mut lasts,
+                &mut values,
+            );
             Found {
                 answer: SegmentsAnswer::Found(count),
-                segments,
+                segments: Segments {
+                    groups,
+                    firsts,
+                    lasts,
+                    values,
+                    count,
+                },
             }
         }
         Asked::Refused(refusal) => refuse(refusal.question, refusal.index),
     }
-}
-
-// The number of frames of a span.
-fn frames_in(first: u16, last: u16) -> u32
-    ensures { λ r. ⌜ r ≡ suc last - first ⌝ }
-{
-    let end = after(last);
-    let start = wide(first);
-    if end < start {
-        return 0;
-    }
-    end - start
-}
-
-// Whether a run begins with a segment.
-fn begins_run(segments: Segments, index: usize) -> bool
-    requires { ⌜ (index < segments .count) × (segments .count ≤ mostSegments) ⌝ }
-    ensures { λ r. ⌜ r ≡ gap (segmentAt (segmentsIn segments)) index ⌝ }
-{
-    if index == 0 {
-        return true;
-    }
-    !follows(segment_in(segments, index - 1), segment_in(segments, index))
-}
-
-// A segment's number where a run begins with it, and else the last gap so far.
-fn latest(begins: bool, index: usize, before: u8) -> u8
-    requires { ⌜ index < mostSegments ⌝ }
-    ensures { λ r. ⌜ r ≡ cond begins index before ⌝ }
-{
-    if begins { index as u8 } else { before }
-}
-
-// What is measured of no segments.
-fn unmeasured() -> Measures
-    ensures { λ r. ⌜ r ≡ measured [] ⌝ }
-{
-    Measures {
-        lengths: [0u32; 255],
-        gaps: [0u8; 256],
-        runs: 0,
-    }
-}
-
-// The lengths, gaps and runs of segments.
-pub fn measure(segments: Segments) -> Measures
-    requires { ⌜ segments .count ≤ mostSegments ⌝ }
-    ensures { λ r. ⌜ r ≡ measured (segmentsIn segments) ⌝ }
-{
-    let count = segments.count;
-    let mut measures = unmeasured();
-    for index in 0..count {
-        let segment = segment_in(segments, index);
-        let begins = begins_run(segments, index);
-        let before = measures.gaps[index];
-        measures.lengths[index] = frames_in(segment.first, segment.last);
-        measures.gaps[index + 1] = latest(begins, index, before);
-        measures.runs = measures.runs + begins as usize;
-    }
-    measures
 }

@@ -1,9 +1,6 @@
--- Laws of the columns, the scan, the table and its read-back, over plain values.
+-- Laws of the columns, the scan and the table, over plain values.
 pub mod Places
-pub mod Errors
+pub mod Grown
 pub mod Scan
 pub mod Filling
-pub mod Range
 pub mod Steps
-pub mod Reading
-pub mod Choosing

@@ -1,13 +1,46 @@
--- The scan of one cell, candidate by candidate, and what a cell's cut may be. Assumes nothing.
+-- The scan of one cell, candidate by candidate. Assumes nothing.
 use Prim.Native.Nat.{ℕ, zero, suc, _+_, _-_, _≤_, _<_, max}
 use mathlib.Core.Bool.{true, false, cond}
-use mathlib.Core.Option.{Option}
+use mathlib.Core.Option.{Option, none, some}
 use mathlib.Core.Path.{_≡_, refl, _∙_}
+use native.Mathlib.Decide.{decLe}
+use native.Mathlib.Numerals.{add-one}
 use native.Mathlib.Omega.{arith}
-use Rattle.model.specs.Split.{Best, untried, plus, below, exceeds, weigh, scan, cell, least}
-use Rattle.theory.proofs.Tests.{cases}
+use lib.Dec.{eqb}
+use Rattle.model.specs.Split.{Best, untried, plus, below, exceeds, weigh, scan, single, cell, least}
+use Rattle.model.specs.Room.{mostError}
+use Rattle.theory.proofs.Tests.{cases, none≢some}
+use Rattle.cuts.specs.Held.{noError, errorIn}
+use Rattle.cuts.proofs.Errors.{none-in, some-in, held}
+use Rattle.split.specs.Held.{Stands}
 
--- ---- one candidate, the one below `at`
+-- ---- a candidate
+
+-- the sum of an error, which may be 'none', and a block's error
+pub plus-in : (b error : ℕ) (e : Option ℕ) → Stands b e → ((t : ℕ) → e ≡ some t → t ≤ mostError) → error ≤ mostError
+    → errorIn (b + error) ≡ plus e error
+unfolding plus
+plus-in b error none is range small =
+    elim (decLe noError b) [
+      | yes le ↦ none-in (b + error) (omega arith)
+      | no lt ↦ absurd (none≢some (is .is) (some-in b (omega arith)))
+    ]
+plus-in b error (some t) is range small =
+    let same = held b t (is .is) in
+    let low = range t refl in
+    rw same (some-in (t + error) (omega arith))
+
+module _ (b : Best) (t : Option ℕ) (j : ℕ) where
+  pub weigh-tried : (weigh b t j) .tried ≡ suc (b .tried)
+  unfolding weigh
+  weigh-tried = cases (below t (b .total)) (λ e. rw e) (λ e. rw e)
+
+  -- the cut is that of the best so far or that of the candidate
+  pub weigh-cut : (top : ℕ) → b .cut < top → j < top → (weigh b t j) .cut < top
+  unfolding weigh
+  weigh-cut top h lt = cases (below t (b .total)) (λ e. rw e lt) (λ e. rw e h)
+
+-- ---- the scan from the candidate below `at` on
 
 module _ (prev : ℕ → Option ℕ) (er : ℕ → ℕ) (low at : ℕ) (best next : Best) (lt : low < at) (tried : next ≡ weigh best (plus (prev (at - 1)) (er (at - 1))) (at - 1)) where
   scan-step : scan prev er low (at - low) best
@@ -18,41 +51,35 @@ module _ (prev : ℕ → Option ℕ) (er : ℕ → ℕ) (low at : ℕ) (best nex
       let here : low + (at - 1 - low) ≡ at - 1 = omega arith in
       rw (tried, left, here)
 
-  -- the scan is left early
+  -- it is left early
   pub scan-left : exceeds (er (at - 1)) (next .total) ≡ true → scan prev er low (at - low) best ≡ next
   scan-left e = scan-step ∙ rw e
 
-  -- the scan is at its end
+  -- it is at its end
   pub scan-end : at - 1 ≡ low → scan prev er low (at - low) best ≡ next
   unfolding scan
   scan-end e =
       let none-left : at - 1 - low ≡ 0 = omega arith in
       scan-step ∙ rw none-left (cases (exceeds (er (at - 1)) (next .total)) (λ q. rw q) (λ q. rw q))
 
-  -- the scan goes on
+  -- it goes on
   pub scan-on : exceeds (er (at - 1)) (next .total) ≡ false
       → scan prev er low (at - low) best ≡ scan prev er low (at - 1 - low) next
   scan-on e = scan-step ∙ rw e
 
--- the cut is that of the best so far or that of a candidate
-weigh-cut : (best : Best) (t : Option ℕ) (j top : ℕ) → best .cut < top → j < top → (weigh best t j) .cut < top
-unfolding weigh
-weigh-cut best t j top h lt = cases (below t (best .total)) (λ e. rw e lt) (λ e. rw e h)
-
-scan-cut : (prev : ℕ → Option ℕ) (er : ℕ → ℕ) (low top left : ℕ) (best : Best) → best .cut < top → (0 < left → low + left ≤ top)
-    → (scan prev er low left best) .cut < top
-unfolding scan
-scan-cut prev er low top zero best h room = h
-scan-cut prev er low top (suc left) best h room =
-    let next : Best = weigh best (plus (prev (low + left)) (er (low + left))) (low + left) in
-    let fits = room (omega arith) in
-    let now : next .cut < top = weigh-cut best _ (low + left) top h (omega arith) in
-    cases (exceeds (er (low + left)) (next .total)) (λ e. rw e now)
-    (λ e. rw e (scan-cut prev er low top left next now (λ some-left. omega arith)))
-
 -- ---- a cell
 
 module _ (err : ℕ → ℕ → ℕ) (low : ℕ → ℕ) where
+  -- the first row: no segments, and i + 1 of them
+  pub first-none : Stands noError (least err low 1 0)
+  unfolding least cell single
+  first-none = record { is = none-in noError (omega arith); le = omega arith }
+
+  pub first-error : (i gap e v : ℕ) → gap ≡ low (i + 1) → e ≡ err 0 (i + 1) → Stands v (cond (eqb gap 0) (some e) none)
+      → Stands v (least err low 1 (i + 1))
+  unfolding least cell single
+  first-error i gap e v is-gap is-error stands = rw add-one (rw (is-gap, is-error, add-one) at stands)
+
   pub cell-scan : (k i : ℕ) → 2 ≤ k
       → scan (least err low (k - 1)) (λ j. err j i) (max (k - 1) (low i)) (i - max (k - 1) (low i)) untried ≡ cell err low k i
   unfolding cell least
@@ -70,16 +97,3 @@ module _ (err : ℕ → ℕ → ℕ) (low : ℕ → ℕ) where
   cell-short (suc (suc k)) i h =
       let none-left : i - max (suc k) (low i) ≡ 0 = omega arith in
       rw none-left
-
-  pub cell-first : (i : ℕ) → (cell err low 1 i) .cut ≡ 0
-  unfolding cell
-  cell-first i = refl
-
-  -- a cut is below the number of segments
-  pub cut-lt : (k i : ℕ) → 0 < i → (cell err low k i) .cut < i
-  unfolding cell untried
-  cut-lt zero i h = h
-  cut-lt (suc zero) i h = h
-  cut-lt (suc (suc k)) i h =
-      scan-cut (λ j. (cell err low (suc k) j) .total) (λ j. err j i) (max (suc k) (low i)) i (i - max (suc k) (low i)) untried h
-      (λ some-left. omega arith)

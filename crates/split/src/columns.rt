@@ -1,85 +1,34 @@
-// What the split table reads of the segments, as columns of numbers.
-use model::Segments;
+// What the split table reads of the segments: runs, the last gap below each number of segments, and the totals of each segment.
+use blocks::Totals;
 ghost use mathlib.Core.Path.{_≡_};
 ghost use mathlib.Core.Bool.{cond};
-ghost use mathlib.Core.List.{[]};
-ghost use Prim.Native.Nat.{ℕ, suc, _*_, _<_, _≤_};
-ghost use lib.ListN.{replicate, getD};
-ghost use Rattle.model.specs.Spans.{spanLength};
+ghost use mathlib.Core.List.{List, []};
+ghost use Prim.Native.Nat.{ℕ, suc, _<_, _≤_};
+ghost use lib.ListN.{length, getD, replicate};
 ghost use Rattle.model.specs.Blocks.{gap};
-ghost use Rattle.model.specs.Split.{runs};
-ghost use Rattle.model.specs.Arrays.{segmentsIn, spanIn, column};
-ghost use Rattle.model.specs.Room.{Measured};
-ghost use Rattle.split.specs.Held.{gapColumn};
+ghost use Rattle.model.specs.Split.{gapBelow, runs};
+ghost use Rattle.model.specs.Arrays.{spanIn, spansIn};
+ghost use Rattle.blocks.specs.Meaning.{totalsIn};
+ghost use Rattle.split.specs.Held.{Measurable, HoldTotals, totalsAt};
 
-pub fn wide16(x: u16) -> u64
+fn wide16(x: u16) -> u64
     ensures { λ r. ⌜ (r ≡ x) × (r < 65536) ⌝ }
 {
     x as u64
 }
 
-pub fn wide32(x: u32) -> u64
-    ensures { λ r. ⌜ r ≡ x ⌝ }
-{
-    x as u64
-}
-
-fn zeros() -> [u64; 256]
+// No gaps.
+fn no_gaps() -> [u8; 256]
     ensures { λ r. ⌜ r ≡ replicate 256 0 ⌝ }
 {
-    [0u64; 256]
+    [0u8; 256]
 }
 
-fn no_gaps() -> [usize; 256]
-    ensures { λ r. ⌜ r ≡ replicate 256 0 ⌝ }
+// Places for the totals of 255 segments.
+pub fn no_totals() -> [u64; 765]
+    ensures { λ r. ⌜ r ≡ replicate 765 0 ⌝ }
 {
-    [0usize; 256]
-}
-
-// The number of frames of each segment.
-pub fn lengths(segments: Segments) -> [u64; 256]
-    requires { ⌜ Measured (segmentsIn segments) ⌝ }
-    ensures { λ r. ⌜ r ≡ column 256 spanLength (segmentsIn segments) ⌝ }
-{
-    let firsts = segments.firsts;
-    let lasts = segments.lasts;
-    let mut out = zeros();
-    let mut i: usize = 0;
-    while i < segments.count {
-        out[i] = wide16(lasts[i]) + 1 - wide16(firsts[i]);
-        i += 1;
-    }
-    out
-}
-
-// The value of each segment.
-pub fn values(segments: Segments) -> [u64; 256]
-    requires { ⌜ Measured (segmentsIn segments) ⌝ }
-    ensures { λ r. ⌜ r ≡ column 256 (λ s. s .value) (segmentsIn segments) ⌝ }
-{
-    let values = segments.values;
-    let mut out = zeros();
-    let mut i: usize = 0;
-    while i < segments.count {
-        out[i] = wide32(values[i]);
-        i += 1;
-    }
-    out
-}
-
-// The products of the first n places of two columns.
-pub fn products(a: &[u64; 256], b: &[u64; 256], n: usize) -> [u64; 256]
-    requires { ⌜ n ≤ 255 ⌝ }
-    requires { ⌜ ((i : ℕ) → i < n → getD (now a) i 0 * getD (now b) i 0 < 18446744073709551616) ⌝ }
-    ensures { λ r. ⌜ ((i : ℕ) → i < n → getD r i 0 ≡ getD (now (a .entry)) i 0 * getD (now (b .entry)) i 0) ⌝ }
-{
-    let mut out = zeros();
-    let mut i: usize = 0;
-    while i < n {
-        out[i] = a[i] * b[i];
-        i += 1;
-    }
-    out
+    [0u64; 765]
 }
 
 // Whether a run begins with segment i.
@@ -96,10 +45,11 @@ fn is_gap(groups: &[u8; 255], firsts: &[u16; 255], lasts: &[u16; 255], i: usize)
     wide16(lasts[i - 1]) + 1 != wide16(firsts[i])
 }
 
-fn pick(gap: bool, i: usize, low: usize) -> usize
-    ensures { λ r. ⌜ r ≡ cond gap i low ⌝ }
+// One of two numbers.
+pub fn pick(first: bool, a: usize, b: usize) -> usize
+    ensures { λ r. ⌜ r ≡ cond first a b ⌝ }
 {
-    if gap { i } else { low }
+    if first { a } else { b }
 }
 
 fn counted(gap: bool, runs: usize) -> usize
@@ -110,41 +60,71 @@ fn counted(gap: bool, runs: usize) -> usize
 }
 
 // The last gap below each number of segments.
-pub fn gaps(segments: Segments) -> [usize; 256]
-    requires { ⌜ Measured (segmentsIn segments) ⌝ }
-    ensures { λ r. ⌜ r ≡ gapColumn (segmentsIn segments) ⌝ }
+pub fn gaps(groups: &[u8; 255], firsts: &[u16; 255], lasts: &[u16; 255], n: usize) -> [u8; 256]
+    requires { ⌜ n ≤ 255 ⌝ }
+    ensures { λ r. ⌜ ((values : List ℕ) (i : ℕ) → i ≤ n → getD r i 0 ≡ gapBelow (spansIn (now (groups .entry)) (now (firsts .entry)) (now (lasts .entry)) values n) i) ⌝ }
 {
-    let groups = segments.groups;
-    let firsts = segments.firsts;
-    let lasts = segments.lasts;
     let mut out = no_gaps();
     let mut low: usize = 0;
     let mut i: usize = 0;
-    while i < segments.count {
-        let begins = is_gap(&groups, &firsts, &lasts, i);
+    while i < n {
+        let begins = is_gap(groups, firsts, lasts, i);
         let next = pick(begins, i, low);
         low = next;
         i += 1;
-        out[i] = low;
+        out[i] = low as u8;
     }
     out
 }
 
 // How many runs there are.
-pub fn runs(segments: Segments) -> usize
-    requires { ⌜ Measured (segmentsIn segments) ⌝ }
-    ensures { λ r. ⌜ r ≡ runs (segmentsIn segments) ⌝ }
+pub fn runs(groups: &[u8; 255], firsts: &[u16; 255], lasts: &[u16; 255], n: usize) -> usize
+    requires { ⌜ n ≤ 255 ⌝ }
+    ensures { λ r. ⌜ ((values : List ℕ) → r ≡ runs (spansIn (now (groups .entry)) (now (firsts .entry)) (now (lasts .entry)) values n)) ⌝ }
 {
-    let groups = segments.groups;
-    let firsts = segments.firsts;
-    let lasts = segments.lasts;
     let mut out: usize = 0;
     let mut i: usize = 0;
-    while i < segments.count {
-        let begins = is_gap(&groups, &firsts, &lasts, i);
+    while i < n {
+        let begins = is_gap(groups, firsts, lasts, i);
         let next = counted(begins, out);
         out = next;
         i += 1;
     }
     out
+}
+
+// The totals of each segment, in three places each.
+pub fn measure(
+    firsts: &[u16; 255],
+    lasts: &[u16; 255],
+    values: &[u32; 255],
+    n: usize,
+    totals: &mut [u64; 765],
+)
+    requires { ⌜ Measurable (now firsts) (now lasts) (now values) n ⌝ }
+    requires { ⌜ length (now totals) ≡ 765 ⌝ }
+    ensures { λ _. ⌜ ((groups : List ℕ) → HoldTotals (spansIn groups (now (firsts .entry)) (now (lasts .entry)) (now (values .entry)) n) (now (totals .exit))) ⌝ }
+{
+    let mut i: usize = 0;
+    while i < n {
+        let one = Totals::make(wide16(lasts[i]) + 1 - wide16(firsts[i]), values[i] as u64);
+        let at = 3 * i;
+        totals[at] = one.frames;
+        totals[at + 1] = one.sum;
+        totals[at + 2] = one.squares;
+        i += 1;
+    }
+}
+
+// The totals of segment i.
+pub fn totals_at(totals: &[u64; 765], i: usize) -> Totals
+    requires { ⌜ i < 255 ⌝ }
+    ensures { λ r. ⌜ totalsIn r ≡ totalsAt (now (totals .entry)) i ⌝ }
+{
+    let at = 3 * i;
+    Totals {
+        frames: totals[at],
+        sum: totals[at + 1],
+        squares: totals[at + 2],
+    }
 }

@@ -1,22 +1,24 @@
 // The split table: entry (k,i), at (k − 1) × 256 + i, is the last cut of the least error of the first i segments in k rows.
 use crate::columns;
 use blocks::Totals;
+use cuts::Reduction;
 use model::Bound;
-use model::Segments;
 ghost use mathlib.Core.Path.{_≡_};
-ghost use mathlib.Core.Bool.{_&&_, not, cond};
+ghost use mathlib.Core.Bool.{true, _&&_, not, cond};
+ghost use mathlib.Core.List.{List};
 ghost use mathlib.Core.Option.{none, some};
-ghost use Prim.Native.Nat.{ℕ, _+_, _<_, _≤_, min, max};
+ghost use Prim.Native.Nat.{ℕ, _+_, _-_, _*_, _<_, _≤_, min, max};
 ghost use lib.Dec.{ltb, eqb};
-ghost use lib.ListN.{getD, replicate};
-ghost use Rattle.model.specs.Arrays.{segmentsIn};
-ghost use Rattle.model.specs.Split.{weigh, plus, least, errorOf, gapBelow, runs};
+ghost use lib.ListN.{length, getD, replicate};
+ghost use Rattle.model.specs.Spans.{Span};
+ghost use Rattle.model.specs.Arrays.{spansIn};
+ghost use Rattle.model.specs.Split.{weigh, runs, reduced, rowsTried};
 ghost use Rattle.model.specs.Room.{Measured};
-ghost use Rattle.split.specs.Held.{noError, errorIn, bestIn, totalsAt, HoldTotals, gapColumn, Known, lastRow, meetsIn, Comparable, Fills};
-ghost use Rattle.blocks.specs.Meaning.{totalsIn};
+ghost use Rattle.cuts.specs.Held.{noError, errorIn, Known, lastRow, meetsIn, Comparable, enoughRows, reductionOf};
+ghost use Rattle.split.specs.Held.{bestIn, Stands, Ready, FirstRow};
 
-// 'none' among errors.
-const NONE: u64 = 18446744073709551615;
+// 'none' among errors, as is every number above it.
+const NONE: u64 = 4611686018427387904;
 
 // The best candidate so far: its total, its cut, and how many candidates were tried.
 pub struct Best {
@@ -32,32 +34,32 @@ impl Best {
         tried: 0,
     };
 
-    // A candidate with this total is tried: a smaller total replaces the best.
+    // A candidate with this total is tried: a smaller total replaces the best. Both fields are picked and none is branched to,
+    // since the processor cannot foretell which candidate is better.
     fn weigh(self, total: u64, cut: usize) -> Best
-        requires { ⌜ self .tried < 256 ⌝ }
+        requires { ⌜ (self .tried < 256) × (self .total ≤ noError) ⌝ }
         ensures { λ r. ⌜ bestIn r ≡ weigh (bestIn self) (errorIn total) cut ⌝ }
+        ensures { λ r. ⌜ r .total ≤ noError ⌝ }
     {
-        if total < self.total {
-            return Best {
-                total: total,
-                cut: cut,
-                tried: self.tried + 1,
-            };
-        }
+        let better = total < self.total;
         Best {
-            total: self.total,
-            cut: self.cut,
+            total: pick_total(better, total, self.total),
+            cut: columns::pick(better, cut, self.cut),
             tried: self.tried + 1,
         }
     }
 }
 
-// A filled table, the errors of all segments in 0 to `rows` rows, and the cuts weighed.
-pub struct Filled {
-    pub table: [u8; 16384],
-    pub column: [u64; 65],
-    pub rows: usize,
-    pub weighed: u64,
+fn pick_total(first: bool, a: u64, b: u64) -> u64
+    ensures { λ r. ⌜ r ≡ cond first a b ⌝ }
+{
+    if first { a } else { b }
+}
+
+fn wide(x: u8) -> usize
+    ensures { λ r. ⌜ r ≡ x ⌝ }
+{
+    x as usize
 }
 
 // A row of errors, all 'none'.
@@ -80,14 +82,6 @@ fn no_cuts() -> [u8; 16384]
     [0u8; 16384]
 }
 
-// The sum of two errors, the first of which may be 'none'.
-fn plus(total: u64, error: u64) -> u64
-    requires { ⌜ (total < noError → total + error < noError) ⌝ }
-    ensures { λ r. ⌜ errorIn r ≡ plus (errorIn total) error ⌝ }
-{
-    if total == NONE { NONE } else { total + error }
-}
-
 fn later(a: usize, b: usize) -> usize
     ensures { λ r. ⌜ r ≡ max a b ⌝ }
 {
@@ -103,46 +97,25 @@ fn lower(a: usize, b: usize) -> usize
 // The error of one row over segments whose last gap is given.
 fn single(gap: usize, error: u64) -> u64
     requires { ⌜ error < noError ⌝ }
-    ensures { λ r. ⌜ errorIn r ≡ cond (eqb gap 0) (some error) none ⌝ }
+    ensures { λ r. ⌜ Stands r (cond (eqb gap 0) (some error) none) ⌝ }
 {
     if gap == 0 { error } else { NONE }
 }
 
-// The totals of segment i, from the columns of lengths, sums and squares.
-fn segment_totals(lengths: &[u64; 256], sums: &[u64; 256], squares: &[u64; 256], i: usize) -> Totals
-    requires { ⌜ i < 256 ⌝ }
-    ensures { λ r. ⌜ totalsIn r ≡ totalsAt (now (lengths .entry)) (now (sums .entry)) (now (squares .entry)) i ⌝ }
+// The table's first row of errors, from the totals and gaps of the segments.
+fn first_row(totals: &[u64; 765], gaps: &[u8; 256], n: usize, errors: &mut [u64; 256])
+    requires { ⌜ ((segs : List (Span ℕ)) × Ready segs (now totals) (now gaps) n) ⌝ }
+    requires { ⌜ (length (now errors) ≡ 256) × (getD (now errors) 0 0 ≡ noError) ⌝ }
+    ensures { λ _. ⌜ ((segs : List (Span ℕ)) → Ready segs (now (totals .entry)) (now (gaps .entry)) n → FirstRow segs (now (errors .exit)) n) ⌝ }
 {
-    Totals {
-        frames: lengths[i],
-        sum: sums[i],
-        squares: squares[i],
-    }
-}
-
-// The table's first row of errors, from the columns of the segments.
-fn first_row(
-    segments: Segments,
-    lengths: &[u64; 256],
-    sums: &[u64; 256],
-    squares: &[u64; 256],
-    gaps: &[usize; 256],
-) -> [u64; 256]
-    requires { ⌜ Measured (segmentsIn segments) ⌝ }
-    requires { ⌜ HoldTotals (segmentsIn segments) (now lengths) (now sums) (now squares) ⌝ }
-    requires { ⌜ now gaps ≡ gapColumn (segmentsIn segments) ⌝ }
-    ensures { λ r. ⌜ ((i : ℕ) → i ≤ segments .count → errorIn (getD r i 0) ≡ least (errorOf (segmentsIn segments)) (gapBelow (segmentsIn segments)) 1 i) ⌝ }
-{
-    let mut out = no_errors();
     let mut block = Totals::EMPTY;
     let mut i: usize = 0;
-    while i < segments.count {
-        let wider = block.add(segment_totals(lengths, sums, squares, i));
+    while i < n {
+        let wider = block.add(columns::totals_at(totals, i));
         block = wider;
         i += 1;
-        out[i] = single(gaps[i], wider.error());
+        errors[i] = single(wide(gaps[i]), wider.error());
     }
-    out
 }
 
 // The last row that may be tried.
@@ -155,69 +128,60 @@ fn last_row(bound: Bound, n: usize) -> usize
     }
 }
 
-// Whether k rows meet the share of the error of one row for each run.
-pub fn met(bound: Bound, column: &[u64; 65], runs: usize, k: usize) -> bool
-    requires { ⌜ Comparable bound (now column) runs k ⌝ }
-    ensures { λ r. ⌜ r ≡ meetsIn bound (now (column .entry)) runs k ⌝ }
-{
-    match bound {
-        Bound::Rows(_) => false,
-        Bound::Share(p) => {
-            if k < runs {
-                return false;
-            }
-            column[k] * 1000 <= columns::wide16(p) * column[runs]
-        }
-    }
-}
-
 // Whether another row is to be tried after row k.
-fn goes_on(bound: Bound, column: &[u64; 65], runs: usize, k: usize, last: usize) -> bool
-    requires { ⌜ Comparable bound (now column) runs k ⌝ }
-    ensures { λ r. ⌜ r ≡ ltb k last && not (meetsIn bound (now (column .entry)) runs k) ⌝ }
+fn goes_on(bound: Bound, column: &[u64; 65], parts: usize, k: usize, last: usize) -> bool
+    requires { ⌜ Comparable bound (now column) parts k ⌝ }
+    ensures { λ r. ⌜ r ≡ ltb k last && not (meetsIn bound (now (column .entry)) parts k) ⌝ }
 {
     if last <= k {
         return false;
     }
-    !met(bound, column, runs, k)
+    !cuts::met(bound, column, parts, k)
 }
 
-// The table's rows 1 to the last that the bound asks for; `parts` is the number of runs.
-pub fn fill(segments: Segments, bound: Bound, parts: usize) -> Filled
-    requires { ⌜ Measured (segmentsIn segments) ⌝ }
-    requires { ⌜ Known bound ⌝ }
-    requires { ⌜ 1 ≤ lastRow bound (segments .count) ⌝ }
-    requires { ⌜ parts ≡ runs (segmentsIn segments) ⌝ }
-    ensures { λ r. ⌜ Fills (segmentsIn segments) bound r ⌝ }
+// Fills the table's rows 1 to the last that the bound asks for and answers from it; `parts` is the number of runs, and `errors` has
+// the first row. A row of errors takes the place of the row before it, from the last cell to the first: a cell reads only those to
+// its left.
+fn fill(
+    totals: &[u64; 765],
+    gaps: &[u8; 256],
+    errors: &mut [u64; 256],
+    groups: &[u8; 255],
+    firsts: &[u16; 255],
+    lasts: &[u16; 255],
+    values: &[u32; 255],
+    n: usize,
+    bound: Bound,
+    parts: usize,
+) -> Reduction
+    requires { ⌜ Ready (spansIn (now groups) (now firsts) (now lasts) (now values) n) (now totals) (now gaps) n ⌝ }
+    requires { ⌜ FirstRow (spansIn (now groups) (now firsts) (now lasts) (now values) n) (now errors) n ⌝ }
+    requires { ⌜ (1 ≤ n) × Known bound × (enoughRows bound parts ≡ true) ⌝ }
+    requires { ⌜ parts ≡ runs (spansIn (now groups) (now firsts) (now lasts) (now values) n) ⌝ }
+    ensures { λ r. ⌜ r ≡ reductionOf (reduced bound (spansIn (now (groups .entry)) (now (firsts .entry)) (now (lasts .entry)) (now (values .entry)) n)) ⌝ }
+    ensures { λ r. ⌜ 2 * r .weighed ≤ (rowsTried bound n (r .count) - 1) * (n * (n - 1)) ⌝ }
 {
-    let n = segments.count;
-    let lengths = columns::lengths(segments);
-    let values = columns::values(segments);
-    let sums = columns::products(&lengths, &values, n);
-    let squares = columns::products(&sums, &values, n);
-    let gaps = columns::gaps(segments);
     let last = last_row(bound, n);
-    let mut before = first_row(segments, &lengths, &sums, &squares, &gaps);
-    let mut errors = no_errors();
     let mut column = no_column();
-    column[1] = before[n];
+    column[1] = errors[n];
     let mut table = no_cuts();
     let mut weighed: u64 = 0;
     let mut k: usize = 1;
     let mut more = goes_on(bound, &column, parts, k, last);
     while more {
         k += 1;
-        let mut i: usize = k;
-        while i <= segments.count {
-            let low = later(k - 1, gaps[i]);
+        let mut i: usize = n + 1;
+        while k < i {
+            i -= 1;
+            let low = later(k - 1, wide(gaps[i]));
             let mut at: usize = i;
             let mut block = Totals::EMPTY;
             let mut best = Best::UNTRIED;
             let found = 'scan: loop {
                 at -= 1;
-                let wider = segment_totals(&lengths, &sums, &squares, at).add(block);
+                let wider = columns::totals_at(totals, at).add(block);
                 let error = wider.error();
-                let total = plus(before[at], error);
+                let total = errors[at] + error;
                 let next = best.weigh(total, at);
                 if next.total < error {
                     break 'scan Best {
@@ -235,16 +199,56 @@ pub fn fill(segments: Segments, bound: Bound, parts: usize) -> Filled
             table[(k - 1) * 256 + i] = found.cut as u8;
             errors[i] = found.total;
             weighed += found.tried;
-            i += 1;
         }
-        before = errors;
-        column[k] = before[n];
+        column[k] = errors[n];
         more = goes_on(bound, &column, parts, k, last);
     }
-    Filled {
-        table: table,
-        column: column,
-        rows: k,
-        weighed: weighed,
-    }
+    cuts::answer_in(
+        &table,
+        &column,
+        groups,
+        firsts,
+        lasts,
+        values,
+        n,
+        bound,
+        parts,
+        k,
+        weighed,
+    )
+}
+
+// The reduction of segments, of which there are some: their totals, gaps and first row of errors are made and the table is filled.
+pub fn tabulate(
+    groups: &[u8; 255],
+    firsts: &[u16; 255],
+    lasts: &[u16; 255],
+    values: &[u32; 255],
+    n: usize,
+    bound: Bound,
+    parts: usize,
+) -> Reduction
+    requires { ⌜ Measured (spansIn (now groups) (now firsts) (now lasts) (now values) n) ⌝ }
+    requires { ⌜ (1 ≤ n) × Known bound × (enoughRows bound parts ≡ true) ⌝ }
+    requires { ⌜ parts ≡ runs (spansIn (now groups) (now firsts) (now lasts) (now values) n) ⌝ }
+    ensures { λ r. ⌜ r ≡ reductionOf (reduced bound (spansIn (now (groups .entry)) (now (firsts .entry)) (now (lasts .entry)) (now (values .entry)) n)) ⌝ }
+    ensures { λ r. ⌜ 2 * r .weighed ≤ (rowsTried bound n (r .count) - 1) * (n * (n - 1)) ⌝ }
+{
+    let gaps = columns::gaps(groups, firsts, lasts, n);
+    let mut totals = columns::no_totals();
+    columns::measure(firsts, lasts, values, n, &mut totals);
+    let mut errors = no_errors();
+    first_row(&totals, &gaps, n, &mut errors);
+    fill(
+        &totals,
+        &gaps,
+        &mut errors,
+        groups,
+        firsts,
+        lasts,
+        values,
+        n,
+        bound,
+        parts,
+    )
 }

@@ -1,99 +1,136 @@
 -- `segments::extend` meets its contract: the last segment is widened, or one more is stored. Assumes nothing.
-use mathlib.Core.Path.{_≡_, sym, _∙_}
-use Prim.Native.Nat.{_≤_, _<_}
-use mathlib.Core.List.{[], _∷_}
-use Rattle.model.specs.Questions.{mostSegments}
-use Rattle.segments.specs.Steps.{joinsLast, segmentSpan}
-use Rattle.model.specs.Arrays.{segmentsIn}
+use borrow.Author.Needs.{needs, scaled-fits}
+use Prim.Native.Nat.{_≤_, _<_, _-_}
 use mathlib.Core.Bool.{true, false}
-use Rattle.segments.proofs.Storing.{made-le, some-made, widened, free, stored}
+use mathlib.Core.List.{[], _∷_}
+use mathlib.Core.Logic.{⊎-elim}
+use mathlib.Core.Path.{_≡_, sym, _∙_}
+use lib.Dec.{lit<}
 use native.Mathlib.Omega.{arith}
+use Rattle.model.specs.Arrays.{spanIn, segmentsIn}
+use Rattle.model.specs.declared.Segments.{Segments}
+use Rattle.segments.specs.Steps.{joinsLast, segmentSpan, arraysOf}
+use Rattle.segments.proofs.Storing.{made-le, joinsLast-in, joinsLast-none-in, widened, free, stored}
 use Rattle.segments.proofs.extend.Statement.{statement}
 use Rattle.segments.proofs.extend.Tie as tie
 
-joining : (c : tie.Then1) → joinsLast (segmentsIn (c .before .before .args .made)) (segmentSpan (c .before .before .args .segment)) ≡ true
-joining c = sym (c .before .joins-last .ensures) ∙ c .if1 .taken
+-- the segments made before
+abbrev made : tie.Start → Segments
+made s = arraysOf (s .args .groups .now) (s .args .firsts .now) (s .args .lasts .now) (s .args .values .now) (s .args .count)
 
--- there is a last segment, and all have a place
-full : (c : tie.Then1) → (0 < c .before .before .args .made .count) × (c .before .before .args .made .count ≤ 255)
-unfolding mostSegments
-full c =
-    let a = c .before .before .args in (
-      some-made (a .made) (c .before .before .pre .0) (segmentSpan (a .segment)) (joining c),
-      omega (arith, made-le (a .made) (c .before .before .pre .0) (segmentSpan (a .segment) ∷ []), c .before .before .pre .1),
-    )
+few : (s : tie.Start) → s .args .count ≤ 255
+few s = omega (arith, made-le (made s) (s .pre .0) (segmentSpan (s .args .segment) ∷ []), s .pre .1)
 
-standing : (c : tie.Else1) → joinsLast (segmentsIn (c .before .before .args .made)) (segmentSpan (c .before .before .args .segment)) ≡ false
-standing c = sym (c .before .joins-last .ensures) ∙ c .if1 .left
+-- the last segment's place
+last : (c : tie.Then1) → c .before .args .count - 1 < 255
+last c = omega (arith, few (c .before))
 
--- there is a place for one more
-room : (c : tie.Else1) → c .before .before .args .made .count < 255
-unfolding mostSegments
+joining : (c : tie.Then2)
+    → joinsLast (segmentsIn (made (c .before .before .before .before .before .before)))
+    (segmentSpan (c .before .before .before .before .before .before .args .segment)) ≡ true
+unfolding spanIn
+joining c =
+    let e = c .before .before .before .before .before in
+    let s = e .before in
+    joinsLast-in (made s) (segmentSpan (s .args .segment)) (e .if1 .taken) ∙ sym (c .before .joins .ensures _) ∙ c .if2 .taken
+
+standing : (c : tie.Joined1) → joinsLast (segmentsIn (made (c .before))) (segmentSpan (c .before .args .segment)) ≡ false
+unfolding spanIn
+standing c =
+    let s = c .before in
+    let t = segmentSpan (s .args .segment) in
+    ⊎-elim (λ w. joinsLast-in (made s) t (w .0 .taken) ∙ sym (w .4 .ensures _) ∙ w .5 .left)
+    (λ w. joinsLast-none-in (made s) t (w .left)) (c .if1 .came)
+
+-- the place for one more
+room : (c : tie.Joined1) → c .before .args .count < 255
 room c =
-    let a = c .before .before .args in
-    free (a .made) (c .before .before .pre .0) (segmentSpan (a .segment)) (standing c) 255 (c .before .before .pre .1)
+    let s = c .before in
+    free (made s) (s .pre .0) (segmentSpan (s .args .segment)) (standing c) 255 (s .pre .1)
 
-joins-last-requires : tie.Need-joins-last-requires
-joins-last-requires c κs = omega (arith, made-le (c .args .made) (c .pre .0) (segmentSpan (c .args .segment) ∷ []), c .pre .1)
+sub-place : tie.Need-sub-place
+sub-place c = search needs
 
-sub-next : tie.Need-sub-next
-sub-next c = let few = full c in omega arith
+element-copy-out-joins : tie.Need-element-copy-out-joins
+element-copy-out-joins c = last c
 
-mul-next : tie.Need-mul-next
-mul-next c = let few = full c in omega arith
+mul-joins : tie.Need-mul-joins
+mul-joins c = scaled-fits _ 255 2 (last (c .before)) (lit< tt)
 
-element-write-next : tie.Need-element-write-next
-element-write-next c = let few = full c in omega arith
+element-copy-out-joins-2 : tie.Need-element-copy-out-joins-2
+element-copy-out-joins-2 c = last (c .before)
+
+mul-joins-2 : tie.Need-mul-joins-2
+mul-joins-2 c = scaled-fits _ 255 4 (last (c .before .before)) (lit< tt)
+
+element-copy-out-joins-3 : tie.Need-element-copy-out-joins-3
+element-copy-out-joins-3 c = last (c .before .before)
+
+joins-requires : tie.Need-joins-requires
+joins-requires c κs = search needs
+
+mul-lasts : tie.Need-mul-lasts
+mul-lasts c = scaled-fits _ 255 2 (last (c .before .before .before .before .before)) (lit< tt)
+
+element-write-lasts : tie.Need-element-write-lasts
+element-write-lasts c = last (c .before .before .before .before .before)
 
 returns : tie.Need-returns
 unfolding segmentSpan
-returns c = let a = c .before .before .args in widened (a .made) (c .before .before .pre .0) (segmentSpan (a .segment)) (joining c)
+returns c =
+    let s = c .before .before .before .before .before .before in
+    widened (made s) (s .pre .0) (segmentSpan (s .args .segment)) (joining c)
 
-element-write-next-2 : tie.Need-element-write-next-2
-element-write-next-2 c = let few = room c in omega arith
+element-write-groups : tie.Need-element-write-groups
+element-write-groups c = room c
 
-mul-next-2 : tie.Need-mul-next-2
-mul-next-2 c = let few = room c in omega arith
+mul-firsts : tie.Need-mul-firsts
+mul-firsts c = scaled-fits _ 255 2 (room c) (lit< tt)
 
-element-write-next-3 : tie.Need-element-write-next-3
-element-write-next-3 c = let few = room c in omega arith
+element-write-firsts : tie.Need-element-write-firsts
+element-write-firsts c = room c
 
-mul-next-3 : tie.Need-mul-next-3
-mul-next-3 c = let few = room c in omega arith
+mul-lasts-2 : tie.Need-mul-lasts-2
+mul-lasts-2 c = scaled-fits _ 255 2 (room c) (lit< tt)
 
-element-write-next-4 : tie.Need-element-write-next-4
-element-write-next-4 c = let few = room c in omega arith
+element-write-lasts-2 : tie.Need-element-write-lasts-2
+element-write-lasts-2 c = room c
 
-mul-next-4 : tie.Need-mul-next-4
-mul-next-4 c = let few = room c in omega arith
+mul-values : tie.Need-mul-values
+mul-values c = scaled-fits _ 255 4 (room c) (lit< tt)
 
-element-write-next-5 : tie.Need-element-write-next-5
-element-write-next-5 c = let few = room c in omega arith
+element-write-values : tie.Need-element-write-values
+element-write-values c = room c
 
-add-next : tie.Need-add-next
-add-next c = let few = room c in omega arith
+add-result : tie.Need-add-result
+add-result c = omega (arith, room c)
 
 returns-2 : tie.Need-returns-2
 unfolding segmentSpan
 returns-2 c =
-    let a = c .before .before .args in
-    stored (a .made) (c .before .before .pre .0) (segmentSpan (a .segment)) (standing c) (room c)
+    let s = c .before in
+    stored (made s) (s .pre .0) (segmentSpan (s .args .segment)) (standing c) (room c)
 
 pub extend-spec : {M : Type 1} → statement M
 extend-spec =
     tie.close
     (tie.spec
-    joins-last-requires
-    sub-next
-    mul-next
-    element-write-next
+    sub-place
+    element-copy-out-joins
+    mul-joins
+    element-copy-out-joins-2
+    mul-joins-2
+    element-copy-out-joins-3
+    joins-requires
+    mul-lasts
+    element-write-lasts
     returns
-    element-write-next-2
-    mul-next-2
-    element-write-next-3
-    mul-next-3
-    element-write-next-4
-    mul-next-4
-    element-write-next-5
-    add-next
+    element-write-groups
+    mul-firsts
+    element-write-firsts
+    mul-lasts-2
+    element-write-lasts-2
+    mul-values
+    element-write-values
+    add-result
     returns-2)

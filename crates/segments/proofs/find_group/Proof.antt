@@ -1,114 +1,152 @@
 -- `segments::find_group` meets its contract. The loop's invariant: what is made, with the frames left behind it, joins to the whole.
 -- Assumes nothing.
-use mathlib.Core.Path.{_≡_, sym, ap, _∙_}
-use native.Mathlib.Omega.{arith}
-use Prim.Native.Nat.{ℕ, _≤_, _<_, _-_, zero-le}
+use Prim.Native.Nat.{ℕ, suc, _-_, _≤_}
 use mathlib.Core.List.{List, [], _++_, append-nil}
+use mathlib.Core.Option.{Option}
+use mathlib.Core.Path.{_≡_, ap, _∙_}
+use native.Mathlib.Numerals.{add-one}
+use native.Mathlib.Omega.{arith}
 use lib.ListN.{length}
+use Rattle.model.specs.Common.{listFrom}
 use Rattle.model.specs.Spans.{Span, frameCount}
-use Rattle.model.specs.Log.{value}
 use Rattle.model.specs.Segments.{framesFrom}
-use Rattle.model.specs.Arrays.{recordsIn, segmentsIn, segmentArrays}
-use Rattle.segments.specs.Steps.{joined, Made}
+use Rattle.model.specs.Arrays.{segmentsIn, segmentArrays}
+use Rattle.model.specs.declared.Segments.{Segments}
+use Rattle.segments.specs.Steps.{ownsIn, surveyed, ownValue, joined, arraysOf, Made}
+use Rattle.segments.specs.declared.Here.{Here}
 use Rattle.segments.proofs.Joining.{joined-le}
 use Rattle.segments.proofs.Storing.{made-by, made-behind}
-use Rattle.segments.proofs.Stretches.{next-behind, next-within, joined-parts, frames-past}
--- Assumes nothing.
+use Rattle.segments.proofs.Loads.{stop-le}
+use Rattle.segments.proofs.Stretches.{stop-from, joined-parts, frames-past, frames-unowned}
 use Rattle.segments.proofs.find_group.Statement.{statement}
 use Rattle.segments.proofs.find_group.Tie as tie
 
 abbrev Inv-loop : tie.InvT-loop
-Inv-loop records kind group next₀ a₀ next a =
-    (a ≤ frameCount)
-    × Made next
-    × (joined (segmentsIn next ++ framesFrom (value kind (recordsIn records)) group a (frameCount - a) [])
-    ≡ joined (segmentsIn next₀ ++ framesFrom (value kind (recordsIn records)) group 0 frameCount []))
+Inv-loop kind own-firsts own-lasts own-loads own group groups₀ firsts₀ lasts₀ values₀ count made₀ a₀ groups firsts lasts values made a =
+    (a ≤ 65535)
+    × Made (arraysOf groups firsts lasts values made)
+    × (joined (segmentsIn (arraysOf groups firsts lasts values made)
+    ++ framesFrom (ownValue kind (ownsIn own-firsts own-lasts own-loads own)) group a (frameCount - a) [])
+    ≡ joined (segmentsIn (arraysOf groups₀ firsts₀ lasts₀ values₀ made₀)
+    ++ framesFrom (ownValue kind (ownsIn own-firsts own-lasts own-loads own)) group 0 frameCount []))
 
 abbrev μ-loop : tie.MeasureT-loop
-μ-loop records kind group next₀ a₀ next a = frameCount - a
+μ-loop kind own-firsts own-lasts own-loads own group groups₀ firsts₀ lasts₀ values₀ count made₀ a₀ groups firsts lasts values made a =
+    65535 - a
 
-in-frames : (c : tie.In-loop Inv-loop μ-loop) → c .before .loop .a < frameCount
-unfolding frameCount
-in-frames c = c .loop-test .taken
+-- the values of the group's frames
+abbrev val : tie.Start Inv-loop μ-loop → ℕ → ℕ → Option ℕ
+val s = ownValue (s .args .kind) (ownsIn (s .args .own-firsts .now) (s .args .own-lasts .now) (s .args .own-loads .now) (s .args .own))
 
-at-end : (c : tie.After-loop Inv-loop μ-loop) → frameCount ≤ c .before .loop .a
-unfolding frameCount
-at-end c = c .loop-test .left
+-- the segments made before, and those made so far
+abbrev before : tie.Start Inv-loop μ-loop → List (Span ℕ)
+before s = segmentsIn (arraysOf (s .args .groups .now) (s .args .firsts .now) (s .args .lasts .now) (s .args .values .now) (s .args .count))
 
-within : (c : tie.After-next-event Inv-loop μ-loop)
-    → (c .before .before .loop .a < c .next-event .result) × (c .next-event .result ≤ frameCount)
+abbrev so-far : tie.At-loop Inv-loop μ-loop → List (Span ℕ)
+so-far c = segmentsIn (arraysOf (c .loop .groups) (c .loop .firsts) (c .loop .lasts) (c .loop .values) (c .loop .made))
+
+-- the next stretch lies among the frames left
+within : (c : tie.After-survey Inv-loop μ-loop)
+    → (c .before .loop .a ≤ c .survey .result .stop) × (c .survey .result .stop ≤ 65535)
+unfolding surveyed
 within c =
-    let a = c .before .before .before .args in
-    let l = c .before .before .loop in
-    let p = c .before .before .before .pre in (
-      next-behind (a .kind) (recordsIn (a .records)) (a .group) (l .a) (c .next-event .result) (p .0 .1) (in-frames (c .before)) (c .next-event .ensures),
-      next-within (a .kind) (recordsIn (a .records)) (a .group) (l .a) (c .next-event .result) (p .0 .1) (in-frames (c .before)) (c .next-event .ensures),
-    )
+    let s = c .before .before .before in
+    let own = ownsIn (s .args .own-firsts .now) (s .args .own-lasts .now) (s .args .own-loads .now) (s .args .own) in
+    let stop = ap (λ (here : Here). here .stop) (c .survey .ensures) in
+    rw stop (stop-from (c .before .loop .a) own (c .before .loop .inv .0), stop-le (c .before .loop .a) own)
 
--- the frames up to the next event, and then those left
-parts : (c : tie.After-next-event Inv-loop μ-loop)
-    → joined (segmentsIn (c .before .before .loop .next)
-    ++ framesFrom (value (c .before .before .before .args .kind) (recordsIn (c .before .before .before .args .records)))
-    (c .before .before .before .args .group) (c .before .before .loop .a) (c .next-event .result - c .before .before .loop .a) []
-    ++ framesFrom (value (c .before .before .before .args .kind) (recordsIn (c .before .before .before .args .records)))
-    (c .before .before .before .args .group) (c .next-event .result) (frameCount - c .next-event .result) [])
-    ≡ joined (segmentsIn (c .before .before .before .args .made)
-    ++ framesFrom (value (c .before .before .before .args .kind) (recordsIn (c .before .before .before .args .records)))
-    (c .before .before .before .args .group) 0 frameCount [])
+-- the frames up to the next event, those left, and all
+abbrev stretch : tie.After-survey Inv-loop μ-loop → List (Span ℕ)
+stretch c =
+    let s = c .before .before .before in
+    framesFrom (val s) (s .args .group) (c .before .loop .a) (suc (c .survey .result .stop) - c .before .loop .a) []
+
+abbrev left : tie.After-survey Inv-loop μ-loop → List (Span ℕ)
+left c =
+    let s = c .before .before .before in
+    framesFrom (val s) (s .args .group) (suc (c .survey .result .stop)) (frameCount - suc (c .survey .result .stop)) []
+
+abbrev whole : tie.Start Inv-loop μ-loop → List (Span ℕ)
+whole s = joined (before s ++ framesFrom (val s) (s .args .group) 0 frameCount [])
+
+parts : (c : tie.After-survey Inv-loop μ-loop)
+    → joined (so-far (c .before) ++ stretch c ++ left c) ≡ whole (c .before .before .before)
+unfolding frameCount
 parts c =
-    let a = c .before .before .before .args in
-    let l = c .before .before .loop in
-    joined-parts (value (a .kind) (recordsIn (a .records))) (a .group) (l .a) (c .next-event .result) frameCount
-    (segmentsIn (l .next)) (let e : l .a ≤ c .next-event .result = omega (arith, within c .0) in e) (within c .1)
-    ∙ l .inv .2
+    let s = c .before .before .before in
+    let w = within c in
+    joined-parts (val s) (s .args .group) (c .before .loop .a) (suc (c .survey .result .stop)) frameCount (so-far (c .before)) (omega arith) (omega arith)
+    ∙ c .before .loop .inv .2
+
+-- the segments made with the stretch
+abbrev made : tie.After-add-stretch Inv-loop μ-loop → Segments
+made c =
+    let r = c .add-stretch in
+    arraysOf (r .last .1 .1 .1 .1 .1 .1 .1 .1 .0) (r .last .1 .1 .1 .1 .1 .1 .1 .1 .1 .0) (r .last .1 .1 .1 .1 .1 .1 .1 .1 .1 .1 .0) (r .last .1 .1 .1 .1 .1 .1 .1 .1 .1 .1 .1 .0) (r .result)
+
+-- the frame after a stretch that does not end with the last frame
+next-frame : (c : tie.Else2 Inv-loop μ-loop)
+    → suc (c .before .before .before .before .before .before .before .survey .result .stop) ≤ 65535
+next-frame c = omega (arith, within (c .before .before .before .before .before .before .before), c .if2 .left)
+
+returns : tie.Need-returns Inv-loop μ-loop
+unfolding listFrom
+returns c =
+    let s = c .before in
+    rw (c .if1 .taken, frames-unowned (s .args .kind) (s .args .group) 0 frameCount, append-nil) (s .pre .1 .0)
 
 loop-holds : tie.Need-loop-holds Inv-loop μ-loop
-loop-holds c = let all : frameCount - 0 ≡ frameCount = omega arith in (zero-le, c .pre .1 .0, rw all)
+loop-holds c = let all : frameCount - 0 ≡ frameCount = omega arith in (omega arith, c .before .pre .1 .0, rw all)
 
-next-event-requires : tie.Need-next-event-requires Inv-loop μ-loop
-next-event-requires c κs = c .before .before .pre .0 .0
+survey-requires : tie.Need-survey-requires Inv-loop μ-loop
+survey-requires c κs = c .before .before .pre .0
 
 add-stretch-requires : tie.Need-add-stretch-requires Inv-loop μ-loop
 add-stretch-requires c κs =
-    let a = c .before .before .before .args in
-    let p = c .before .before .before .pre in
-    let l = c .before .before .loop in
-    let whole = parts c in (
-      (p .0 .0, p .0 .1, in-frames (c .before)),
+    let v = c .before .before .before .before in
+    let s = v .before .before .before in (
+      s .pre .0,
       (
-        c .next-event .ensures,
+        v .survey .ensures,
         (
-          l .inv .1,
+          v .before .loop .inv .1,
           omega (
             arith,
-            p .1 .1,
-            ap (λ (s : List (Span ℕ)). length s) whole,
-            joined-le (segmentsIn (l .next) ++ framesFrom (value (a .kind) (recordsIn (a .records))) (a .group) (l .a) (c .next-event .result - l .a) []) (framesFrom (value (a .kind) (recordsIn (a .records))) (a .group) (c .next-event .result) (frameCount - c .next-event .result) []),
+            s .pre .1 .1,
+            ap (λ (l : List (Span ℕ)). length l) (parts v),
+            joined-le (so-far (v .before) ++ stretch v) (left v),
           ),
         ),
       ),
     )
 
+returns-2 : tie.Need-returns-2 Inv-loop μ-loop
+unfolding frameCount
+returns-2 c =
+    let e = c .before .before in
+    let v = e .before .before .before .before .before in
+    let s = v .before .before .before in
+    let past : frameCount ≤ suc (v .survey .result .stop) = omega (arith, c .if2 .taken) in
+    let done : so-far (v .before) ++ stretch v ≡ so-far (v .before) ++ stretch v ++ left v =
+    rw (frames-past (val s) (s .args .group) (suc (v .survey .result .stop)) frameCount past, append-nil) in
+    e .add-stretch .ensures ∙ ap segmentArrays (ap joined done ∙ parts v)
+
+add-a : tie.Need-add-a Inv-loop μ-loop
+add-a c = omega (arith, next-frame (c .before))
+
 loop-less : tie.Need-loop-less Inv-loop μ-loop
-loop-less c = omega (arith, in-frames (c .before .before), within (c .before) .0, within (c .before) .1)
+loop-less c = omega (arith, next-frame (c .before), within (c .before .before .before .before .before .before .before .before))
 
 loop-again : tie.Need-loop-again Inv-loop μ-loop
-loop-again c = (
-  within (c .before) .1,
-  made-by _ _ (c .add-stretch .ensures),
-  made-behind _ _ (c .add-stretch .ensures) _ ∙ parts (c .before),
-)
-
-returns : tie.Need-returns Inv-loop μ-loop
-returns c =
-    let a = c .before .before .args in
-    let l = c .before .loop in
-    let past : frameCount ≤ l .a = at-end c in
-    l .inv .1
-    ∙ ap segmentArrays
-    (ap joined (sym (append-nil (segmentsIn (l .next))))
-    ∙ ap (λ (r : List (Span ℕ)). joined (segmentsIn (l .next) ++ r)) (sym (frames-past (value (a .kind) (recordsIn (a .records))) (a .group) (l .a) frameCount past))
-    ∙ l .inv .2)
+loop-again c =
+    let e = c .before .before .before in
+    let v = e .before .before .before .before .before in
+    let l = so-far (v .before) ++ stretch v in
+    rw (add-one (v .survey .result .stop)) (
+      next-frame (c .before),
+      made-by (made e) l (e .add-stretch .ensures),
+      made-behind (made e) l (e .add-stretch .ensures) (left v) ∙ parts v,
+    )
 
 pub find-group-spec : {M : Type 1} → statement M
 find-group-spec =
@@ -116,9 +154,11 @@ find-group-spec =
     (tie.spec
     Inv-loop
     μ-loop
+    returns
     loop-holds
-    next-event-requires
+    survey-requires
     add-stretch-requires
+    returns-2
+    add-a
     loop-less
-    loop-again
-    returns)
+    loop-again)

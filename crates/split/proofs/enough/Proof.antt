@@ -1,6 +1,6 @@
 -- `enough` meets its contract. Assumes nothing.
 use borrow.Author.Needs.{needs}
-use Rattle.split.specs.Held.{enoughRows}
+use Rattle.cuts.specs.Held.{enoughRows}
 use Rattle.split.proofs.enough.Statement.{statement}
 use Rattle.split.proofs.enough.Tie as tie
 

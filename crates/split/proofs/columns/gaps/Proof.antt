@@ -1,28 +1,46 @@
--- `columns::gaps` meets its contract. The invariant: the places to `i` are filled, and `low` is the last gap below `i`. Assumes nothing.
-use Prim.Native.Nat.{_+_, _-_, _≤_}
-use mathlib.Core.Path.{_≡_, refl, _∙_}
+-- `columns::gaps` meets its contract. The invariant: `low` is the last gap below `i`, and the places to `i` hold such gaps. Assumes nothing.
+use Prim.Native.Nat.{ℕ, _+_, _-_, _≤_}
+use mathlib.Core.List.{[]}
+use mathlib.Core.Path.{_≡_, refl, ap, _∙_}
 use native.Mathlib.Omega.{arith}
-use lib.ListN.{length}
+use lib.ListN.{length, length-set, length-replicate, getD, getD-replicate}
 use borrow.Author.Needs.{needs}
+use Rattle.model.specs.Spans.{Span}
 use Rattle.model.specs.Blocks.{lastGap}
-use Rattle.model.specs.Split.{gapBelow}
-use Rattle.model.specs.Arrays.{segmentsIn}
-use Rattle.split.proofs.Places.{places, places-first, places-set, few-count, count-is, gapBelow-next, gapColumn-places}
+use Rattle.model.specs.Arrays.{spanIn}
+use Rattle.split.proofs.Places.{after-set, gap-next, gaps-plain}
 use Rattle.split.proofs.columns.gaps.Statement.{statement}
 use Rattle.split.proofs.columns.gaps.Tie as tie
 
 abbrev Inv-loop : tie.InvT-loop
-Inv-loop segments groups firsts lasts out₀ low₀ i₀ out low i = (segments .count ≤ 255) × (i ≤ segments .count) × (low ≡ gapBelow (segmentsIn segments) i) × (out ≡ places 256 (i + 1) (gapBelow (segmentsIn segments)))
+Inv-loop groups firsts lasts n out₀ low₀ i₀ out low i = (i ≤ n) × (length out ≡ 256) × (low ≡ lastGap (spanIn groups firsts lasts []) i) × ((x : ℕ) → x ≤ i → getD out x 0 ≡ lastGap (spanIn groups firsts lasts []) x)
 
 abbrev μ-loop : tie.MeasureT-loop
-μ-loop segments groups firsts lasts out₀ low₀ i₀ out low i = segments .count - i
+μ-loop groups firsts lasts n out₀ low₀ i₀ out low i = n - i
+
+spans : tie.After-pick Inv-loop μ-loop → ℕ → Span ℕ
+spans c =
+    let a = c .before .before .before .before .before .args in
+    spanIn (a .groups .now) (a .firsts .now) (a .lasts .now) []
+
+next : (c : tie.After-pick Inv-loop μ-loop)
+    → (c .pick .result ≡ lastGap (spans c) (c .before .before .before .loop .i + 1)) × (c .pick .result ≤ c .before .before .before .loop .i)
+unfolding spans
+next c = gap-next _ _ _ (c .before .is-gap .ensures) _ _ (c .before .before .before .loop .inv .2) (c .pick .ensures)
 
 no-gaps-requires : tie.Need-no-gaps-requires Inv-loop μ-loop
 no-gaps-requires c κs = search needs
 
 loop-holds : tie.Need-loop-holds Inv-loop μ-loop
-unfolding gapBelow lastGap
-loop-holds c = (few-count (c .before .before .before .before .args .segments) (c .before .before .before .before .pre), omega arith, refl, c .no-gaps .ensures ∙ places-first _ refl)
+unfolding lastGap
+loop-holds c = (
+  omega arith,
+  ap length (c .no-gaps .ensures) ∙ length-replicate {A = ℕ} 256 0,
+  refl,
+  λ x le.
+      let first : x ≡ 0 = omega arith in
+      rw (first, c .no-gaps .ensures) (getD-replicate 256 0 0 0 (omega arith)),
+)
 
 is-gap-requires : tie.Need-is-gap-requires Inv-loop μ-loop
 is-gap-requires c κs = omega arith
@@ -33,8 +51,8 @@ pick-requires c κs = search needs
 add-i : tie.Need-add-i Inv-loop μ-loop
 add-i c = omega arith
 
-mul-out : tie.Need-mul-out Inv-loop μ-loop
-mul-out c = omega arith
+cast-out : tie.Need-cast-out Inv-loop μ-loop
+cast-out c = omega (arith, next c .1)
 
 array-write-out : tie.Need-array-write-out Inv-loop μ-loop
 array-write-out c = omega arith
@@ -43,14 +61,16 @@ loop-less : tie.Need-loop-less Inv-loop μ-loop
 loop-less c = omega arith
 
 loop-again : tie.Need-loop-again Inv-loop μ-loop
-loop-again c =
-    let next = gapBelow-next (c .before .before .before .before .before .before .before .before .before .before .before .before .args .segments) (c .before .before .before .before .before .before .before .loop .i) (omega arith) _ _ _ (c .before .is-gap .ensures) (c .pick .ensures) (c .before .before .before .before .before .before .before .loop .inv .2) in
-    (omega arith, omega arith, next, places-set 256 _ _ _ _ (omega arith) (c .before .before .before .before .before .before .before .loop .inv .3) next)
+unfolding spans
+loop-again c = (
+  omega arith,
+  simp length-set (c .before .before .before .loop .inv .1),
+  next c .0,
+  λ x le. after-set (λ y v. v ≡ lastGap (spans c) y) (c .before .before .before .loop .out) (c .before .before .before .loop .i + 1) (c .pick .result) (omega arith) (next c .0) x (λ other. c .before .before .before .loop .inv .3 x (omega arith)),
+)
 
 returns : tie.Need-returns Inv-loop μ-loop
-returns c =
-    let all : c .before .before .loop .i ≡ length (segmentsIn (c .before .before .before .before .before .before .before .args .segments)) = omega (arith, count-is (c .before .before .before .before .before .before .before .args .segments)) in
-    (rw all at (c .before .before .loop .inv .3)) ∙ gapColumn-places _
+returns c = λ values i le. c .before .loop .inv .3 i (omega arith) ∙ gaps-plain _ _ _ values _ i le
 
 pub gaps-spec : {M : Type 1} → statement M
 gaps-spec =
@@ -63,7 +83,7 @@ gaps-spec =
     is-gap-requires
     pick-requires
     add-i
-    mul-out
+    cast-out
     array-write-out
     loop-less
     loop-again

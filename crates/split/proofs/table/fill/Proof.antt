@@ -1,277 +1,231 @@
--- `table::fill` meets its contract. Between rows the table is filled to row `k`; between cells, to cell `i`; between
+-- `table::fill` meets its contract. Between rows the table is filled to row `k`; between cells, from cell `i` on; between
 -- candidates, what is left of the scan is the cell. Assumes nothing.
-use Prim.Native.Nat.{ℕ, _+_, _-_, _≤_}
+use Prim.Native.Nat.{ℕ, _+_, _-_}
+use mathlib.Core.Bool.{_&&_, not}
+use mathlib.Core.List.{List}
 use mathlib.Core.Logic.{⊎-elim}
-use mathlib.Core.Path.{_≡_, sym, ap, _∙_, subst}
-use native.Mathlib.Omega.{arith}
-use lib.ListN.{getD}
+use mathlib.Core.Path.{_≡_, sym, subst}
+use lib.Dec.{ltb, lit<}
+use lib.ListN.{getD, set}
 use borrow.Author.Needs.{needs}
-use Rattle.model.specs.Split.{cell, least, errorOf, gapBelow, leastOf}
-use Rattle.model.specs.Blocks.{add, totals, block, segmentAt}
-use Rattle.model.specs.declared.Segments.{Segments}
-use Rattle.model.specs.Arrays.{segmentsIn}
-use Rattle.model.specs.Room.{Room, Block}
+use Rattle.model.specs.Spans.{Span}
+use Rattle.model.specs.Blocks.{empty}
+use Rattle.model.specs.Arrays.{spansIn}
 use Rattle.blocks.specs.Meaning.{totalsIn}
-use Rattle.split.specs.Held.{bestIn, lastRow, errorIn, HoldTotals}
-use Rattle.split.proofs.Errors.{some-in}
-use Rattle.split.proofs.Range.{sums-fit, squares-fit, hold-totals, block-range, total-range, gaps-at, totals-front, error-of}
-use Rattle.split.proofs.Steps.{comparable, column-first, rows-start, rows-on, cells-start, scan-start, scan-next, scan-early, scan-last, cells-next, cut-small, count-small, column-next, rows-next, fills, some-segments}
-use Rattle.split.proofs.Places.{few-count, count-is}
-use Rattle.split.proofs.Filling.{Rows, Cells, Scanning}
+use Rattle.cuts.specs.Held.{meetsIn}
+use Rattle.split.proofs.Grown.{Grown}
+use Rattle.split.proofs.Steps.{Scanning, Found, InScan, in-scan, candidate, Cells, InRow, in-row, Filled, InTable, total-fits, scan-early, scan-last, scan-next, scan-start, cut-fits, count-fits, cells-next, all-place, filled-start, compares, in-table, cells-start, filled-next, fills}
 use Rattle.split.proofs.table.fill.Statement.{statement}
 use Rattle.split.proofs.table.fill.Tie as tie
 
 abbrev Inv-scan : tie.InvT-scan
-Inv-scan segments bound parts n lengths sums squares gaps last before errors column table weighed k more i low at₀ block₀ best₀ at block best = Scanning (segmentsIn segments) k i low at block best
+Inv-scan totals gaps errors groups firsts lasts values n bound parts last column table weighed k more i low at₀ block₀ best₀ at block best =
+    Scanning (spansIn groups firsts lasts values n) totals gaps n k errors i low at (totalsIn block) best
 
 abbrev μ-scan : tie.MeasureT-scan
-μ-scan segments bound parts n lengths sums squares gaps last before errors column table weighed k more i low at₀ block₀ best₀ at block best = at
+μ-scan totals gaps errors groups firsts lasts values n bound parts last column table weighed k more i low at₀ block₀ best₀ at block best =
+    at
 
 abbrev Inv-loop2 : tie.InvT-loop2
-Inv-loop2 segments bound parts n lengths sums squares gaps last before errors₀ column table₀ weighed₀ k more i₀ errors table weighed i = Cells (segmentsIn segments) k errors table weighed i
+Inv-loop2 totals gaps errors₀ groups firsts lasts values n bound parts last column table₀ weighed₀ k more i₀ errors table weighed i =
+    Cells (spansIn groups firsts lasts values n) totals gaps n k errors table weighed i
 
 abbrev μ-loop2 : tie.MeasureT-loop2
-μ-loop2 segments bound parts n lengths sums squares gaps last before errors₀ column table₀ weighed₀ k more i₀ errors table weighed i = segments .count + 1 - i
+μ-loop2 totals gaps errors₀ groups firsts lasts values n bound parts last column table₀ weighed₀ k more i₀ errors table weighed i =
+    i
 
 abbrev Inv-loop : tie.InvT-loop
-Inv-loop segments bound parts n lengths sums squares gaps last before₀ errors₀ column₀ table₀ weighed₀ k₀ more₀ before errors column table weighed k more = Rows (segmentsIn segments) bound last before errors column table weighed k more
+Inv-loop totals gaps errors₀ groups firsts lasts values n bound parts last column₀ table₀ weighed₀ k₀ more₀ errors column table weighed k more =
+    Filled (spansIn groups firsts lasts values n) totals gaps n bound parts last errors column table weighed k
+    × (more ≡ ltb k last && not (meetsIn bound column parts k))
 
 abbrev μ-loop : tie.MeasureT-loop
-μ-loop segments bound parts n lengths sums squares gaps last before₀ errors₀ column₀ table₀ weighed₀ k₀ more₀ before errors column table weighed k more = last - k
+μ-loop totals gaps errors₀ groups firsts lasts values n bound parts last column₀ table₀ weighed₀ k₀ more₀ errors column table weighed k more =
+    last - k
 
-last-of : (s : Segments) (k v : ℕ) → errorIn v ≡ least (errorOf (segmentsIn s)) (gapBelow (segmentsIn s)) k (s .count)
-    → errorIn v ≡ leastOf (segmentsIn s) k
-unfolding leastOf
-last-of s k v h = h ∙ ap (least (errorOf (segmentsIn s)) (gapBelow (segmentsIn s)) k) (sym (count-is s))
+abbrev segs : tie.Start Inv-scan μ-scan Inv-loop2 μ-loop2 Inv-loop μ-loop → List (Span ℕ)
+segs s = spansIn (s .args .groups .now) (s .args .firsts .now) (s .args .lasts .now) (s .args .values .now) (s .args .n)
 
--- the columns hold the totals of each segment
-held : (c : tie.After-products2 Inv-scan μ-scan Inv-loop2 μ-loop2 Inv-loop μ-loop)
-    → HoldTotals (segmentsIn (c .before .before .before .before .before .before .before .before .args .segments)) (c .before .before .before .before .before .before .before .lengths .result) (c .before .before .before .products .result) (c .products2 .result)
-held c =
-    hold-totals (segmentsIn (c .before .before .before .before .before .before .before .before .args .segments)) (c .before .before .before .before .before .before .before .before .pre .0) _ _ (c .before .before .before .before .before .before .before .lengths .ensures) (c .before .before .before .before .before .before .values .ensures) _ _ (sym (count-is (c .before .before .before .before .before .before .before .before .args .segments))) (c .before .before .before .products .ensures) _ (c .products2 .ensures)
+-- the first row is filled
+first : (c : tie.After-column2 Inv-scan μ-scan Inv-loop2 μ-loop2 Inv-loop μ-loop)
+    → Filled (segs (c .before .before .before .before .before)) (c .before .before .before .before .before .args .totals .now) (c .before .before .before .before .before .args .gaps .now) (c .before .before .before .before .before .args .n) (c .before .before .before .before .before .args .bound) (c .before .before .before .before .before .args .parts) (c .before .before .before .before .last-row .result) (c .before .before .before .before .before .args .errors .now)
+    (set (c .before .before .before .no-column .result) 1 (getD (c .before .before .before .before .before .args .errors .now) (c .before .before .before .before .before .args .n) 0)) (c .before .no-cuts .result) 0 1
+first c =
+    let (ready, (row, ((some, known, enough), is-runs))) = c .before .before .before .before .before .pre in
+    filled-start ready some _ known is-runs enough (c .before .before .before .before .last-row .ensures) row (c .before .before .before .no-column .ensures) (c .before .no-cuts .ensures)
 
-grown : (c : tie.After-segment-totals Inv-scan μ-scan Inv-loop2 μ-loop2 Inv-loop μ-loop)
-    → add (totalsIn (c .segment-totals .result)) (totalsIn (c .before .before .before .before .scan .block))
-    ≡ totals (block (segmentAt (segmentsIn (c .before .before .before .before .before .before .before .before .before .before .before .before .before .before .before .before .before .before .before .before .before .before .before .before .before .before .before .before .before .before .before .args .segments))) (c .before .before .before .before .scan .at - 1) (c .before .before .before .before .before .before .before .before .loop2 .i))
-grown c =
-    let inside = c .before .before .before .before .before .before .if1 .taken in
-    let from = c .before .before .before .before .scan .inv .from in
-    let to = c .before .before .before .before .scan .inv .to in
-    totals-front (segmentsIn (c .before .before .before .before .before .before .before .before .before .before .before .before .before .before .before .before .before .before .before .before .before .before .before .before .before .before .before .before .before .before .before .args .segments)) _ _ _ (held (c .before .before .before .before .before .before .before .before .before .before .before .before .before .before .before .before .before .before .before .before .before .before .before)) (c .before .before .before .before .scan .at - 1) (omega (arith, count-is (c .before .before .before .before .before .before .before .before .before .before .before .before .before .before .before .before .before .before .before .before .before .before .before .before .before .before .before .before .before .before .before .args .segments))) _ _ (c .segment-totals .ensures)
-    (c .before .before .before .before .scan .at) (c .before .before .before .before .before .before .before .before .loop2 .i) (omega arith) to (c .before .before .before .before .scan .inv .totals-are)
+-- the numbers of a row, of a cell and of a candidate are in range
+row-of : (c : tie.In-loop Inv-scan μ-scan Inv-loop2 μ-loop2 Inv-loop μ-loop)
+    → InTable (c .before .before .before .before .before .before .before .before .args .n) (c .before .before .before .before .before .before .before .last-row .result) (c .before .loop .k)
+row-of c = in-table (c .before .loop .inv .0) (c .before .loop .inv .1) (c .loop-test .taken)
 
-error-is : (c : tie.After-error Inv-scan μ-scan Inv-loop2 μ-loop2 Inv-loop μ-loop)
-    → c .error .result ≡ errorOf (segmentsIn (c .before .before .before .before .before .before .before .before .before .before .before .before .before .before .before .before .before .before .before .before .before .before .before .before .before .before .before .before .before .before .before .before .before .args .segments)) (c .before .before .before .before .before .before .scan .at - 1) (c .before .before .before .before .before .before .before .before .before .before .loop2 .i)
-error-is c =
-    c .error .ensures
-    ∙ error-of (segmentsIn (c .before .before .before .before .before .before .before .before .before .before .before .before .before .before .before .before .before .before .before .before .before .before .before .before .before .before .before .before .before .before .before .before .before .args .segments)) (c .before .before .before .before .before .before .before .before .before .before .before .before .before .before .before .before .before .before .before .before .before .before .before .before .before .before .before .before .before .before .before .before .before .pre .0) _ _ _ (c .before .add .ensures ∙ grown (c .before .before))
+cell-of : (c : tie.In-loop2 Inv-scan μ-scan Inv-loop2 μ-loop2 Inv-loop μ-loop)
+    → InRow (c .before .before .before .loop .k + 1) (c .before .loop2 .i)
+cell-of c = in-row (c .before .loop2 .inv) (c .loop2-test .taken)
 
-before-is : (c : tie.At-scan Inv-scan μ-scan Inv-loop2 μ-loop2 Inv-loop μ-loop)
-    → errorIn (getD (c .before .before .before .before .before .before .loop .before) (c .scan .at - 1) 0)
-    ≡ least (errorOf (segmentsIn (c .before .before .before .before .before .before .before .before .before .before .before .before .before .before .before .before .before .before .before .before .before .before .before .before .before .before .before .args .segments))) (gapBelow (segmentsIn (c .before .before .before .before .before .before .before .before .before .before .before .before .before .before .before .before .before .before .before .before .before .before .before .before .before .before .before .args .segments))) (c .before .before .before .before .before .before .loop .k + 1 - 1) (c .scan .at - 1)
-before-is c =
-    let inside = c .before .before .if1 .taken in
-    let from = c .scan .inv .from in
-    let to = c .scan .inv .to in
-    let low = c .before .later .ensures in
-    let row : c .before .before .before .before .before .before .loop .k + 1 - 1 ≡ c .before .before .before .before .before .before .loop .k = omega arith in
-    rw row (c .before .before .before .before .before .before .loop .inv .before-at (c .scan .at - 1) (omega arith) (omega (arith, count-is (c .before .before .before .before .before .before .before .before .before .before .before .before .before .before .before .before .before .before .before .before .before .before .before .before .before .before .before .args .segments))))
+candidate-of : (c : tie.At-scan Inv-scan μ-scan Inv-loop2 μ-loop2 Inv-loop μ-loop)
+    → InScan (c .scan .at) (c .scan .best)
+candidate-of c = in-scan (c .scan .inv)
 
-found-is : (c : tie.Joined2 Inv-scan μ-scan Inv-loop2 μ-loop2 Inv-loop μ-loop)
-    → bestIn (c .if2 .found) ≡ cell (errorOf (segmentsIn (c .before .before .before .before .before .before .before .before .before .before .before .before .before .before .before .before .before .before .before .before .before .before .before .before .before .before .before .before .before .before .before .before .before .before .before .before .before .args .segments))) (gapBelow (segmentsIn (c .before .before .before .before .before .before .before .before .before .before .before .before .before .before .before .before .before .before .before .before .before .before .before .before .before .before .before .before .before .before .before .before .before .before .before .before .before .args .segments))) (c .before .before .before .before .before .before .before .before .before .before .before .before .before .before .before .before .loop .k + 1) (c .before .before .before .before .before .before .before .before .before .before .before .before .before .before .loop2 .i)
-found-is c =
+-- the block with the candidate's first segment
+wider : (c : tie.After-add Inv-scan μ-scan Inv-loop2 μ-loop2 Inv-loop μ-loop)
+    → Grown (segs (c .before .before .before .before .before .before .before .before .before .before .before .before .before .before .before .before)) (c .before .before .scan .at - 1) (c .before .before .before .before .before .before .before .loop2 .i - 1) (totalsIn (c .add .result))
+wider c = subst (Grown _ _ _) (sym (c .add .ensures)) (candidate (c .before .before .scan .inv) (c .before .totals-at .ensures))
+
+-- the cell, by either way out of the scan
+found : (c : tie.Joined1 Inv-scan μ-scan Inv-loop2 μ-loop2 Inv-loop μ-loop)
+    → Found (segs (c .before .before .before .before .before .before .before .before .before .before .before .before .before .before .before .before .before .before .before .before .before)) (c .before .before .before .before .before .before .before .before .before .before .before .before .before .before .loop .k + 1) (c .before .before .before .before .before .before .before .before .before .before .before .before .loop2 .i - 1) (c .if1 .found)
+found c =
+    let inv = c .before .before .before .before .before .before .before .scan .inv in
+    let next = c .before .before .weigh .ensures in
     ⊎-elim
-    (λ w. ap bestIn (w .1) ∙ scan-early (segmentsIn (c .before .before .before .before .before .before .before .before .before .before .before .before .before .before .before .before .before .before .before .before .before .before .before .before .before .before .before .before .before .before .before .before .before .before .before .before .before .args .segments)) _ _ _ _ _ _ _ (c .before .before .before .before .before .before .before .before .before .before .scan .inv) _ _ _ (error-is (c .before .before .before .before)) (c .before .before .before .plus .ensures) (before-is (c .before .before .before .before .before .before .before .before .before .before)) (c .before .before .weigh .ensures) (omega arith) (omega arith) (w .0 .taken))
-    (λ w. ap bestIn (w .2) ∙ scan-last (segmentsIn (c .before .before .before .before .before .before .before .before .before .before .before .before .before .before .before .before .before .before .before .before .before .before .before .before .before .before .before .before .before .before .before .before .before .before .before .before .before .args .segments)) _ _ _ _ _ _ _ (c .before .before .before .before .before .before .before .before .before .before .scan .inv) _ _ _ (error-is (c .before .before .before .before)) (c .before .before .before .plus .ensures) (before-is (c .before .before .before .before .before .before .before .before .before .before)) (c .before .before .weigh .ensures) (w .1 .taken))
-    (c .if2 .came)
-
-lengths-requires : tie.Need-lengths-requires Inv-scan μ-scan Inv-loop2 μ-loop2 Inv-loop μ-loop
-lengths-requires c κs = c .pre .0
-
-values-requires : tie.Need-values-requires Inv-scan μ-scan Inv-loop2 μ-loop2 Inv-loop μ-loop
-values-requires c κs = c .before .pre .0
-
-products-requires : tie.Need-products-requires Inv-scan μ-scan Inv-loop2 μ-loop2 Inv-loop μ-loop
-products-requires c κs = (
-  few-count (c .before .before .before .before .args .segments) (c .before .before .before .before .pre .0),
-  sums-fit (segmentsIn (c .before .before .before .before .args .segments)) (c .before .before .before .before .pre .0) _ _ (c .before .before .before .lengths .ensures) (c .before .before .values .ensures) _ (sym (count-is (c .before .before .before .before .args .segments))),
-)
-
-products-requires-2 : tie.Need-products-requires-2 Inv-scan μ-scan Inv-loop2 μ-loop2 Inv-loop μ-loop
-products-requires-2 c κs = (
-  few-count (c .before .before .before .before .before .before .before .args .segments) (c .before .before .before .before .before .before .before .pre .0),
-  squares-fit (segmentsIn (c .before .before .before .before .before .before .before .args .segments)) (c .before .before .before .before .before .before .before .pre .0) (c .before .before .before .before .before .before .lengths .result) (c .before .before .before .before .before .values .result) (c .before .before .before .before .before .before .lengths .ensures) (c .before .before .before .before .before .values .ensures) (c .before .before .products .result) (c .before .before .before .before .before .before .before .args .segments .count) (sym (count-is (c .before .before .before .before .before .before .before .args .segments))) (c .before .before .products .ensures),
-)
-
-gaps-requires : tie.Need-gaps-requires Inv-scan μ-scan Inv-loop2 μ-loop2 Inv-loop μ-loop
-gaps-requires c κs = c .before .before .before .before .before .before .before .before .pre .0
+    (λ w. rw (w .1) (scan-early inv (wider (c .before .before .before .before .before)) (c .before .before .before .before .error .ensures) _ (next .0) (next .1) (w .0 .taken)))
+    (λ w. rw (w .2) (scan-last inv (wider (c .before .before .before .before .before)) (c .before .before .before .before .error .ensures) _ (next .0) (next .1) (w .1 .taken)))
+    (c .if1 .came)
 
 last-row-requires : tie.Need-last-row-requires Inv-scan μ-scan Inv-loop2 μ-loop2 Inv-loop μ-loop
 last-row-requires c κs = search needs
-
-first-row-requires : tie.Need-first-row-requires Inv-scan μ-scan Inv-loop2 μ-loop2 Inv-loop μ-loop
-first-row-requires c κs = (c .before .before .before .before .before .before .before .before .before .before .before .before .before .before .pre .0, (held (c .before .before .before .before .before .before), c .before .before .before .before .before .gaps .ensures))
-
-no-errors-requires : tie.Need-no-errors-requires Inv-scan μ-scan Inv-loop2 μ-loop2 Inv-loop μ-loop
-no-errors-requires c κs = search needs
 
 no-column-requires : tie.Need-no-column-requires Inv-scan μ-scan Inv-loop2 μ-loop2 Inv-loop μ-loop
 no-column-requires c κs = search needs
 
 mul-column : tie.Need-mul-column Inv-scan μ-scan Inv-loop2 μ-loop2 Inv-loop μ-loop
-mul-column c = let few = few-count (c .before .before .before .before .before .before .before .before .before .before .before .before .before .before .before .before .before .args .segments) (c .before .before .before .before .before .before .before .before .before .before .before .before .before .before .before .before .before .pre .0) in omega arith
+mul-column c = all-place (c .before .before .pre .0) .offset
 
-array-read-column : tie.Need-array-read-column Inv-scan μ-scan Inv-loop2 μ-loop2 Inv-loop μ-loop
-array-read-column c = let few = few-count (c .before .before .before .before .before .before .before .before .before .before .before .before .before .before .before .before .before .args .segments) (c .before .before .before .before .before .before .before .before .before .before .before .before .before .before .before .before .before .pre .0) in omega arith
+element-copy-out-column : tie.Need-element-copy-out-column Inv-scan μ-scan Inv-loop2 μ-loop2 Inv-loop μ-loop
+element-copy-out-column c = all-place (c .before .before .pre .0) .inside
 
 array-write-column : tie.Need-array-write-column Inv-scan μ-scan Inv-loop2 μ-loop2 Inv-loop μ-loop
-array-write-column c = search needs
+array-write-column c = lit< tt
 
 no-cuts-requires : tie.Need-no-cuts-requires Inv-scan μ-scan Inv-loop2 μ-loop2 Inv-loop μ-loop
 no-cuts-requires c κs = search needs
 
 goes-on-requires : tie.Need-goes-on-requires Inv-scan μ-scan Inv-loop2 μ-loop2 Inv-loop μ-loop
-goes-on-requires c κs =
-    let room = c .before .before .before .before .before .before .before .before .before .before .before .before .before .before .before .before .before .before .before .pre .1 .1 .0 in
-    comparable (segmentsIn (c .before .before .before .before .before .before .before .before .before .before .before .before .before .before .before .before .before .before .before .args .segments)) (c .before .before .before .before .before .before .before .before .before .before .before .before .before .before .before .before .before .before .before .pre .0) _ _ 1 (c .before .before .before .before .before .before .before .before .before .before .before .before .before .before .before .before .before .before .before .pre .1 .1 .1)
-    (column-first (segmentsIn (c .before .before .before .before .before .before .before .before .before .before .before .before .before .before .before .before .before .before .before .args .segments)) (c .before .before .before .before .before .before .before .before .before .before .before .before .before .before .before .before .before .before .before .pre .0) (c .before .before .before .before .before .before .before .before .before .before .before .before .before .before .before .before .before .before .before .args .bound) (c .before .before .before .before .before .before .before .before .before .before .before .before .before .before .before .before .before .before .before .pre .1 .0) _ (c .before .before .before .before .before .before .before .before .before .last-row .ensures ∙ ap (lastRow (c .before .before .before .before .before .before .before .before .before .before .before .before .before .before .before .before .before .before .before .args .bound)) (sym (count-is (c .before .before .before .before .before .before .before .before .before .before .before .before .before .before .before .before .before .before .before .args .segments)))) _ (c .before .before .before .before .before .before .before .before .before .before .before .before .before .before .before .before .before .before .before .pre .1 .1 .1) _ _ (some-segments _ _ _ room (count-is (c .before .before .before .before .before .before .before .before .before .before .before .before .before .before .before .before .before .before .before .args .segments))) (last-of (c .before .before .before .before .before .before .before .before .before .before .before .before .before .before .before .before .before .before .before .args .segments) 1 _ (c .before .before .before .before .first-row .ensures (c .before .before .before .before .before .before .before .before .before .before .before .before .before .before .before .before .before .before .before .args .segments .count) (omega arith))) (c .before .before .no-column .ensures))
-    (some-segments _ _ _ room (count-is (c .before .before .before .before .before .before .before .before .before .before .before .before .before .before .before .before .before .before .before .args .segments))) _ (c .before .before .before .before .before .before .before .before .before .before .before .before .before .before .before .before .before .before .before .pre .1 .0) (omega arith)
+goes-on-requires c κs = compares (first c)
 
 loop-holds : tie.Need-loop-holds Inv-scan μ-scan Inv-loop2 μ-loop2 Inv-loop μ-loop
-loop-holds c =
-    rows-start (segmentsIn (c .before .before .before .before .before .before .before .before .before .before .before .before .before .before .before .before .before .before .before .before .args .segments)) (c .before .before .before .before .before .before .before .before .before .before .before .before .before .before .before .before .before .before .before .before .pre .0) (c .before .before .before .before .before .before .before .before .before .before .before .before .before .before .before .before .before .before .before .before .args .bound) (c .before .before .before .before .before .before .before .before .before .before .before .before .before .before .before .before .before .before .before .before .pre .1 .0) _ (c .before .before .before .before .before .before .before .before .before .before .last-row .ensures ∙ ap (lastRow (c .before .before .before .before .before .before .before .before .before .before .before .before .before .before .before .before .before .before .before .before .args .bound)) (sym (count-is (c .before .before .before .before .before .before .before .before .before .before .before .before .before .before .before .before .before .before .before .before .args .segments)))) _ (c .before .before .before .before .before .before .before .before .before .before .before .before .before .before .before .before .before .before .before .before .pre .1 .1 .1) _ _ _ _ _ _
-    (subst (λ (x : ℕ). 1 ≤ x) (sym (c .before .before .before .before .before .before .before .before .before .before .last-row .ensures)) (c .before .before .before .before .before .before .before .before .before .before .before .before .before .before .before .before .before .before .before .before .pre .1 .1 .0))
-    (λ i le. c .before .before .before .before .before .first-row .ensures i (omega (arith, count-is (c .before .before .before .before .before .before .before .before .before .before .before .before .before .before .before .before .before .before .before .before .args .segments)))) (last-of (c .before .before .before .before .before .before .before .before .before .before .before .before .before .before .before .before .before .before .before .before .args .segments) 1 _ (c .before .before .before .before .before .first-row .ensures (c .before .before .before .before .before .before .before .before .before .before .before .before .before .before .before .before .before .before .before .before .args .segments .count) (omega arith))) (c .before .before .before .before .no-errors .ensures) (c .before .before .before .no-column .ensures) (c .before .before .no-cuts .ensures) (c .goes-on .ensures)
+loop-holds c = (first (c .before), c .goes-on .ensures)
 
 add-k : tie.Need-add-k Inv-scan μ-scan Inv-loop2 μ-loop2 Inv-loop μ-loop
-add-k c = let to = c .before .loop .inv .to in let rows = c .before .loop .inv .rows in omega arith
+add-k c = row-of c .next
+
+add-i : tie.Need-add-i Inv-scan μ-scan Inv-loop2 μ-loop2 Inv-loop μ-loop
+add-i c = row-of c .end
 
 loop2-holds : tie.Need-loop2-holds Inv-scan μ-scan Inv-loop2 μ-loop2 Inv-loop μ-loop
-loop2-holds c = cells-start (segmentsIn (c .before .before .before .before .before .before .before .before .before .before .before .before .before .before .before .before .before .before .before .before .before .before .args .segments)) _ _ _ _ _ _ _ _ _ (c .before .loop .inv) (rows-on (segmentsIn (c .before .before .before .before .before .before .before .before .before .before .before .before .before .before .before .before .before .before .before .before .before .before .args .segments)) (c .before .before .before .before .before .before .before .before .before .before .before .before .before .before .before .before .before .before .before .before .before .before .pre .0) (c .before .before .before .before .before .before .before .before .before .before .before .before .before .before .before .before .before .before .before .before .before .before .args .bound) (c .before .before .before .before .before .before .before .before .before .before .before .before .before .before .before .before .before .before .before .before .before .before .pre .1 .0) _ (c .before .before .before .before .before .before .before .before .before .before .before .before .last-row .ensures ∙ ap (lastRow (c .before .before .before .before .before .before .before .before .before .before .before .before .before .before .before .before .before .before .before .before .before .before .args .bound)) (sym (count-is (c .before .before .before .before .before .before .before .before .before .before .before .before .before .before .before .before .before .before .before .before .before .before .args .segments)))) _ (c .before .before .before .before .before .before .before .before .before .before .before .before .before .before .before .before .before .before .before .before .before .before .pre .1 .1 .1) _ _ _ _ _ _ _ (c .before .loop .inv) (c .loop-test .taken))
+loop2-holds c = cells-start (c .before .loop .inv .0) (c .before .loop .inv .1) (c .loop-test .taken)
+
+sub-i : tie.Need-sub-i Inv-scan μ-scan Inv-loop2 μ-loop2 Inv-loop μ-loop
+sub-i c = cell-of c .cell
 
 sub-later : tie.Need-sub-later Inv-scan μ-scan Inv-loop2 μ-loop2 Inv-loop μ-loop
-sub-later c = omega arith
+sub-later c = cell-of c .row
 
-mul-later : tie.Need-mul-later Inv-scan μ-scan Inv-loop2 μ-loop2 Inv-loop μ-loop
-mul-later c = let few = c .before .before .before .before .loop .inv .few in let taken = c .if1 .taken in omega (arith, count-is (c .before .before .before .before .before .before .before .before .before .before .before .before .before .before .before .before .before .before .before .before .before .before .before .before .before .args .segments))
+element-copy-out-wide : tie.Need-element-copy-out-wide Inv-scan μ-scan Inv-loop2 μ-loop2 Inv-loop μ-loop
+element-copy-out-wide c = cell-of c .place .inside
 
-array-read-later : tie.Need-array-read-later Inv-scan μ-scan Inv-loop2 μ-loop2 Inv-loop μ-loop
-array-read-later c = let few = c .before .before .before .before .loop .inv .few in let taken = c .if1 .taken in omega (arith, count-is (c .before .before .before .before .before .before .before .before .before .before .before .before .before .before .before .before .before .before .before .before .before .before .before .before .before .args .segments))
+wide-requires : tie.Need-wide-requires Inv-scan μ-scan Inv-loop2 μ-loop2 Inv-loop μ-loop
+wide-requires c κs = search needs
 
 later-requires : tie.Need-later-requires Inv-scan μ-scan Inv-loop2 μ-loop2 Inv-loop μ-loop
 later-requires c κs = search needs
 
 scan-holds : tie.Need-scan-holds Inv-scan μ-scan Inv-loop2 μ-loop2 Inv-loop μ-loop
-scan-holds c =
-    let first = c .before .before .before .before .before .loop .inv .from in let cells = c .before .before .before .loop2 .inv .from in let taken = c .before .if1 .taken in
-    scan-start (segmentsIn (c .before .before .before .before .before .before .before .before .before .before .before .before .before .before .before .before .before .before .before .before .before .before .before .before .before .before .args .segments)) _ _ _ _ first cells (gaps-at (segmentsIn (c .before .before .before .before .before .before .before .before .before .before .before .before .before .before .before .before .before .before .before .before .before .before .before .before .before .before .args .segments)) _ _ (c .before .before .before .before .before .before .before .before .before .before .before .before .before .before .before .before .before .gaps .ensures) (omega (arith, count-is (c .before .before .before .before .before .before .before .before .before .before .before .before .before .before .before .before .before .before .before .before .before .before .before .before .before .before .args .segments)))) (c .later .ensures)
+unfolding totalsIn empty
+scan-holds c = scan-start (c .before .before .before .before .loop2 .inv) (c .before .before .before .loop2-test .taken) _ _ (c .before .wide .ensures) (c .later .ensures)
 
 sub-at : tie.Need-sub-at Inv-scan μ-scan Inv-loop2 μ-loop2 Inv-loop μ-loop
-sub-at c = let from = c .scan .inv .from in omega arith
+sub-at c = candidate-of c .some
 
-segment-totals-requires : tie.Need-segment-totals-requires Inv-scan μ-scan Inv-loop2 μ-loop2 Inv-loop μ-loop
-segment-totals-requires c κs = let few = c .before .before .before .before .before .before .before .before .before .loop .inv .few in let taken = c .before .before .before .before .before .if1 .taken in let to = c .before .before .before .scan .inv .to in omega (arith, count-is (c .before .before .before .before .before .before .before .before .before .before .before .before .before .before .before .before .before .before .before .before .before .before .before .before .before .before .before .before .before .before .args .segments))
+totals-at-requires : tie.Need-totals-at-requires Inv-scan μ-scan Inv-loop2 μ-loop2 Inv-loop μ-loop
+totals-at-requires c κs = candidate-of c .segment
 
 add-requires : tie.Need-add-requires Inv-scan μ-scan Inv-loop2 μ-loop2 Inv-loop μ-loop
-add-requires c κs = let from = c .before .before .before .before .scan .inv .from in let to = c .before .before .before .before .scan .inv .to in let taken = c .before .before .before .before .before .before .if1 .taken in
-    subst Room (sym (grown c)) (block-range (segmentsIn (c .before .before .before .before .before .before .before .before .before .before .before .before .before .before .before .before .before .before .before .before .before .before .before .before .before .before .before .before .before .before .before .args .segments)) (c .before .before .before .before .before .before .before .before .before .before .before .before .before .before .before .before .before .before .before .before .before .before .before .before .before .before .before .before .before .before .before .pre .0) _ _ (omega arith) (omega (arith, count-is (c .before .before .before .before .before .before .before .before .before .before .before .before .before .before .before .before .before .before .before .before .before .before .before .before .before .before .before .before .before .before .before .args .segments))) .room)
+add-requires c κs = candidate (c .before .scan .inv) (c .totals-at .ensures) .ok .room
 
 error-requires : tie.Need-error-requires Inv-scan μ-scan Inv-loop2 μ-loop2 Inv-loop μ-loop
-error-requires c κs = let from = c .before .before .before .before .before .scan .inv .from in let to = c .before .before .before .before .before .scan .inv .to in let taken = c .before .before .before .before .before .before .before .if1 .taken in
-    subst Block (sym (c .add .ensures ∙ grown (c .before))) (block-range (segmentsIn (c .before .before .before .before .before .before .before .before .before .before .before .before .before .before .before .before .before .before .before .before .before .before .before .before .before .before .before .before .before .before .before .before .args .segments)) (c .before .before .before .before .before .before .before .before .before .before .before .before .before .before .before .before .before .before .before .before .before .before .before .before .before .before .before .before .before .before .before .before .pre .0) _ _ (omega arith) (omega (arith, count-is (c .before .before .before .before .before .before .before .before .before .before .before .before .before .before .before .before .before .before .before .before .before .before .before .before .before .before .before .before .before .before .before .before .args .segments))))
+unfolding totalsIn
+error-requires c κs = wider c .ok
 
-mul-plus : tie.Need-mul-plus Inv-scan μ-scan Inv-loop2 μ-loop2 Inv-loop μ-loop
-mul-plus c = let few = c .before .before .before .before .before .before .before .before .before .before .before .before .loop .inv .few in let taken = c .before .before .before .before .before .before .before .before .if1 .taken in let to = c .before .before .before .before .before .before .scan .inv .to in omega (arith, count-is (c .before .before .before .before .before .before .before .before .before .before .before .before .before .before .before .before .before .before .before .before .before .before .before .before .before .before .before .before .before .before .before .before .before .args .segments))
+mul-total : tie.Need-mul-total Inv-scan μ-scan Inv-loop2 μ-loop2 Inv-loop μ-loop
+mul-total c = candidate-of (c .before .before .before) .place .offset
 
-array-read-plus : tie.Need-array-read-plus Inv-scan μ-scan Inv-loop2 μ-loop2 Inv-loop μ-loop
-array-read-plus c = let few = c .before .before .before .before .before .before .before .before .before .before .before .before .loop .inv .few in let taken = c .before .before .before .before .before .before .before .before .if1 .taken in let to = c .before .before .before .before .before .before .scan .inv .to in omega (arith, count-is (c .before .before .before .before .before .before .before .before .before .before .before .before .before .before .before .before .before .before .before .before .before .before .before .before .before .before .before .before .before .before .before .before .before .args .segments))
+element-copy-out-total : tie.Need-element-copy-out-total Inv-scan μ-scan Inv-loop2 μ-loop2 Inv-loop μ-loop
+element-copy-out-total c = candidate-of (c .before .before .before) .place .inside
 
-plus-requires : tie.Need-plus-requires Inv-scan μ-scan Inv-loop2 μ-loop2 Inv-loop μ-loop
-plus-requires c κs = λ lt.
-    let from = c .before .before .before .before .before .before .scan .inv .from in let to = c .before .before .before .before .before .before .scan .inv .to in let taken = c .before .before .before .before .before .before .before .before .if1 .taken in
-    let most = total-range (segmentsIn (c .before .before .before .before .before .before .before .before .before .before .before .before .before .before .before .before .before .before .before .before .before .before .before .before .before .before .before .before .before .before .before .before .before .args .segments)) (c .before .before .before .before .before .before .before .before .before .before .before .before .before .before .before .before .before .before .before .before .before .before .before .before .before .before .before .before .before .before .before .before .before .pre .0) (c .before .before .before .before .before .before .before .before .before .before .before .before .loop .k + 1 - 1) (c .before .before .before .before .before .before .scan .at - 1) (c .before .before .before .before .before .before .before .before .before .before .loop2 .i) _ (omega arith) (omega (arith, count-is (c .before .before .before .before .before .before .before .before .before .before .before .before .before .before .before .before .before .before .before .before .before .before .before .before .before .before .before .before .before .before .before .before .before .args .segments))) (sym (before-is (c .before .before .before .before .before .before)) ∙ some-in _ lt) in
-    omega (arith, error-is c)
+add-total : tie.Need-add-total Inv-scan μ-scan Inv-loop2 μ-loop2 Inv-loop μ-loop
+add-total c = total-fits (c .before .before .before .before .scan .inv) (wider (c .before .before)) (c .before .error .ensures)
 
 weigh-requires : tie.Need-weigh-requires Inv-scan μ-scan Inv-loop2 μ-loop2 Inv-loop μ-loop
-weigh-requires c κs = let few = c .before .before .before .before .before .before .before .before .before .before .before .before .before .loop .inv .few in let tried = c .before .before .before .before .before .before .before .scan .inv .tried in let taken = c .before .before .before .before .before .before .before .before .before .if1 .taken in omega (arith, count-is (c .before .before .before .before .before .before .before .before .before .before .before .before .before .before .before .before .before .before .before .before .before .before .before .before .before .before .before .before .before .before .before .before .before .before .args .segments))
+weigh-requires c κs = (candidate-of (c .before .before .before .before) .tried, c .before .before .before .before .scan .inv .total)
 
 scan-less : tie.Need-scan-less Inv-scan μ-scan Inv-loop2 μ-loop2 Inv-loop μ-loop
-scan-less c = let from = c .before .before .before .before .before .before .before .before .before .before .before .scan .inv .from in omega arith
+scan-less c = candidate-of (c .before .before .before .before .before .before .before .before) .falls
 
 scan-again : tie.Need-scan-again Inv-scan μ-scan Inv-loop2 μ-loop2 Inv-loop μ-loop
 scan-again c =
-    scan-next (segmentsIn (c .before .before .before .before .before .before .before .before .before .before .before .before .before .before .before .before .before .before .before .before .before .before .before .before .before .before .before .before .before .before .before .before .before .before .before .before .before .before .args .segments)) _ _ _ _ _ _ _ (c .before .before .before .before .before .before .before .before .before .before .before .scan .inv) _ _ _ (error-is (c .before .before .before .before .before)) (c .before .before .before .before .plus .ensures) (before-is (c .before .before .before .before .before .before .before .before .before .before .before)) (c .before .before .before .weigh .ensures) (omega arith) (omega arith) (c .before .if2 .left) (c .if3 .left) _ (c .before .before .before .before .before .before .add .ensures ∙ grown (c .before .before .before .before .before .before .before))
+    let next = c .before .before .before .weigh .ensures in
+    scan-next (c .before .before .before .before .before .before .before .before .scan .inv) (wider (c .before .before .before .before .before .before)) (c .before .before .before .before .before .error .ensures) _ (next .0) (next .1) (c .before .if1 .left) (c .if2 .left)
 
 cast-table : tie.Need-cast-table Inv-scan μ-scan Inv-loop2 μ-loop2 Inv-loop μ-loop
-cast-table c =
-    let few = c .before .before .before .before .before .before .before .before .before .before .before .before .before .before .before .before .before .loop .inv .few in let rows = c .before .before .before .before .before .before .before .before .before .before .before .before .before .before .before .before .before .loop .inv .rows in let first = c .before .before .before .before .before .before .before .before .before .before .before .before .before .before .before .before .before .loop .inv .from in let on = rows-on (segmentsIn (c .before .before .before .before .before .before .before .before .before .before .before .before .before .before .before .before .before .before .before .before .before .before .before .before .before .before .before .before .before .before .before .before .before .before .before .before .before .before .args .segments)) (c .before .before .before .before .before .before .before .before .before .before .before .before .before .before .before .before .before .before .before .before .before .before .before .before .before .before .before .before .before .before .before .before .before .before .before .before .before .before .pre .0) (c .before .before .before .before .before .before .before .before .before .before .before .before .before .before .before .before .before .before .before .before .before .before .before .before .before .before .before .before .before .before .before .before .before .before .before .before .before .before .args .bound) (c .before .before .before .before .before .before .before .before .before .before .before .before .before .before .before .before .before .before .before .before .before .before .before .before .before .before .before .before .before .before .before .before .before .before .before .before .before .before .pre .1 .0) _ (c .before .before .before .before .before .before .before .before .before .before .before .before .before .before .before .before .before .before .before .before .before .before .before .before .before .before .before .before .last-row .ensures ∙ ap (lastRow (c .before .before .before .before .before .before .before .before .before .before .before .before .before .before .before .before .before .before .before .before .before .before .before .before .before .before .before .before .before .before .before .before .before .before .before .before .before .before .args .bound)) (sym (count-is (c .before .before .before .before .before .before .before .before .before .before .before .before .before .before .before .before .before .before .before .before .before .before .before .before .before .before .before .before .before .before .before .before .before .before .before .before .before .before .args .segments)))) _ (c .before .before .before .before .before .before .before .before .before .before .before .before .before .before .before .before .before .before .before .before .before .before .before .before .before .before .before .before .before .before .before .before .before .before .before .before .before .before .pre .1 .1 .1) _ _ _ _ _ _ _ (c .before .before .before .before .before .before .before .before .before .before .before .before .before .before .before .before .before .loop .inv) (c .before .before .before .before .before .before .before .before .before .before .before .before .before .before .before .before .loop-test .taken) in let taken = c .before .before .before .before .before .before .before .before .before .before .before .before .before .if1 .taken in
-    let small = cut-small (segmentsIn (c .before .before .before .before .before .before .before .before .before .before .before .before .before .before .before .before .before .before .before .before .before .before .before .before .before .before .before .before .before .before .before .before .before .before .before .before .before .before .args .segments)) _ _ _ _ _ (c .before .before .before .before .before .before .before .before .before .before .before .before .before .before .before .loop2 .inv) _ (found-is (c .before)) (omega arith) (omega arith) few (omega (arith, count-is (c .before .before .before .before .before .before .before .before .before .before .before .before .before .before .before .before .before .before .before .before .before .before .before .before .before .before .before .before .before .before .before .before .before .before .before .before .before .before .args .segments))) in
-    omega arith
+cast-table c = cut-fits (c .before .before .before .before .before .before .before .before .before .before .before .before .before .loop2 .inv) (c .before .before .before .before .before .before .before .before .before .before .before .before .loop2-test .taken) (found (c .before))
 
 sub-table : tie.Need-sub-table Inv-scan μ-scan Inv-loop2 μ-loop2 Inv-loop μ-loop
-sub-table c = omega arith
+sub-table c = cell-of (c .before .before .before .before .before .before .before .before .before .before .before .before) .row
 
 mul-table : tie.Need-mul-table Inv-scan μ-scan Inv-loop2 μ-loop2 Inv-loop μ-loop
-mul-table c = let few = c .before .before .before .before .before .before .before .before .before .before .before .before .before .before .before .before .before .loop .inv .few in let rows = c .before .before .before .before .before .before .before .before .before .before .before .before .before .before .before .before .before .loop .inv .rows in let on = rows-on (segmentsIn (c .before .before .before .before .before .before .before .before .before .before .before .before .before .before .before .before .before .before .before .before .before .before .before .before .before .before .before .before .before .before .before .before .before .before .before .before .before .before .args .segments)) (c .before .before .before .before .before .before .before .before .before .before .before .before .before .before .before .before .before .before .before .before .before .before .before .before .before .before .before .before .before .before .before .before .before .before .before .before .before .before .pre .0) (c .before .before .before .before .before .before .before .before .before .before .before .before .before .before .before .before .before .before .before .before .before .before .before .before .before .before .before .before .before .before .before .before .before .before .before .before .before .before .args .bound) (c .before .before .before .before .before .before .before .before .before .before .before .before .before .before .before .before .before .before .before .before .before .before .before .before .before .before .before .before .before .before .before .before .before .before .before .before .before .before .pre .1 .0) _ (c .before .before .before .before .before .before .before .before .before .before .before .before .before .before .before .before .before .before .before .before .before .before .before .before .before .before .before .before .last-row .ensures ∙ ap (lastRow (c .before .before .before .before .before .before .before .before .before .before .before .before .before .before .before .before .before .before .before .before .before .before .before .before .before .before .before .before .before .before .before .before .before .before .before .before .before .before .args .bound)) (sym (count-is (c .before .before .before .before .before .before .before .before .before .before .before .before .before .before .before .before .before .before .before .before .before .before .before .before .before .before .before .before .before .before .before .before .before .before .before .before .before .before .args .segments)))) _ (c .before .before .before .before .before .before .before .before .before .before .before .before .before .before .before .before .before .before .before .before .before .before .before .before .before .before .before .before .before .before .before .before .before .before .before .before .before .before .pre .1 .1 .1) _ _ _ _ _ _ _ (c .before .before .before .before .before .before .before .before .before .before .before .before .before .before .before .before .before .loop .inv) (c .before .before .before .before .before .before .before .before .before .before .before .before .before .before .before .before .loop-test .taken) in let taken = c .before .before .before .before .before .before .before .before .before .before .before .before .before .if1 .taken in omega (arith, count-is (c .before .before .before .before .before .before .before .before .before .before .before .before .before .before .before .before .before .before .before .before .before .before .before .before .before .before .before .before .before .before .before .before .before .before .before .before .before .before .args .segments))
+mul-table c = cell-of (c .before .before .before .before .before .before .before .before .before .before .before .before) .line
 
 add-table : tie.Need-add-table Inv-scan μ-scan Inv-loop2 μ-loop2 Inv-loop μ-loop
-add-table c = let few = c .before .before .before .before .before .before .before .before .before .before .before .before .before .before .before .before .before .loop .inv .few in let rows = c .before .before .before .before .before .before .before .before .before .before .before .before .before .before .before .before .before .loop .inv .rows in let on = rows-on (segmentsIn (c .before .before .before .before .before .before .before .before .before .before .before .before .before .before .before .before .before .before .before .before .before .before .before .before .before .before .before .before .before .before .before .before .before .before .before .before .before .before .args .segments)) (c .before .before .before .before .before .before .before .before .before .before .before .before .before .before .before .before .before .before .before .before .before .before .before .before .before .before .before .before .before .before .before .before .before .before .before .before .before .before .pre .0) (c .before .before .before .before .before .before .before .before .before .before .before .before .before .before .before .before .before .before .before .before .before .before .before .before .before .before .before .before .before .before .before .before .before .before .before .before .before .before .args .bound) (c .before .before .before .before .before .before .before .before .before .before .before .before .before .before .before .before .before .before .before .before .before .before .before .before .before .before .before .before .before .before .before .before .before .before .before .before .before .before .pre .1 .0) _ (c .before .before .before .before .before .before .before .before .before .before .before .before .before .before .before .before .before .before .before .before .before .before .before .before .before .before .before .before .last-row .ensures ∙ ap (lastRow (c .before .before .before .before .before .before .before .before .before .before .before .before .before .before .before .before .before .before .before .before .before .before .before .before .before .before .before .before .before .before .before .before .before .before .before .before .before .before .args .bound)) (sym (count-is (c .before .before .before .before .before .before .before .before .before .before .before .before .before .before .before .before .before .before .before .before .before .before .before .before .before .before .before .before .before .before .before .before .before .before .before .before .before .before .args .segments)))) _ (c .before .before .before .before .before .before .before .before .before .before .before .before .before .before .before .before .before .before .before .before .before .before .before .before .before .before .before .before .before .before .before .before .before .before .before .before .before .before .pre .1 .1 .1) _ _ _ _ _ _ _ (c .before .before .before .before .before .before .before .before .before .before .before .before .before .before .before .before .before .loop .inv) (c .before .before .before .before .before .before .before .before .before .before .before .before .before .before .before .before .loop-test .taken) in let taken = c .before .before .before .before .before .before .before .before .before .before .before .before .before .if1 .taken in omega (arith, count-is (c .before .before .before .before .before .before .before .before .before .before .before .before .before .before .before .before .before .before .before .before .before .before .before .before .before .before .before .before .before .before .before .before .before .before .before .before .before .before .args .segments))
+add-table c = cell-of (c .before .before .before .before .before .before .before .before .before .before .before .before) .entry
 
 array-write-table : tie.Need-array-write-table Inv-scan μ-scan Inv-loop2 μ-loop2 Inv-loop μ-loop
-array-write-table c = let few = c .before .before .before .before .before .before .before .before .before .before .before .before .before .before .before .before .before .loop .inv .few in let rows = c .before .before .before .before .before .before .before .before .before .before .before .before .before .before .before .before .before .loop .inv .rows in let on = rows-on (segmentsIn (c .before .before .before .before .before .before .before .before .before .before .before .before .before .before .before .before .before .before .before .before .before .before .before .before .before .before .before .before .before .before .before .before .before .before .before .before .before .before .args .segments)) (c .before .before .before .before .before .before .before .before .before .before .before .before .before .before .before .before .before .before .before .before .before .before .before .before .before .before .before .before .before .before .before .before .before .before .before .before .before .before .pre .0) (c .before .before .before .before .before .before .before .before .before .before .before .before .before .before .before .before .before .before .before .before .before .before .before .before .before .before .before .before .before .before .before .before .before .before .before .before .before .before .args .bound) (c .before .before .before .before .before .before .before .before .before .before .before .before .before .before .before .before .before .before .before .before .before .before .before .before .before .before .before .before .before .before .before .before .before .before .before .before .before .before .pre .1 .0) _ (c .before .before .before .before .before .before .before .before .before .before .before .before .before .before .before .before .before .before .before .before .before .before .before .before .before .before .before .before .last-row .ensures ∙ ap (lastRow (c .before .before .before .before .before .before .before .before .before .before .before .before .before .before .before .before .before .before .before .before .before .before .before .before .before .before .before .before .before .before .before .before .before .before .before .before .before .before .args .bound)) (sym (count-is (c .before .before .before .before .before .before .before .before .before .before .before .before .before .before .before .before .before .before .before .before .before .before .before .before .before .before .before .before .before .before .before .before .before .before .before .before .before .before .args .segments)))) _ (c .before .before .before .before .before .before .before .before .before .before .before .before .before .before .before .before .before .before .before .before .before .before .before .before .before .before .before .before .before .before .before .before .before .before .before .before .before .before .pre .1 .1 .1) _ _ _ _ _ _ _ (c .before .before .before .before .before .before .before .before .before .before .before .before .before .before .before .before .before .loop .inv) (c .before .before .before .before .before .before .before .before .before .before .before .before .before .before .before .before .loop-test .taken) in let taken = c .before .before .before .before .before .before .before .before .before .before .before .before .before .if1 .taken in omega (arith, count-is (c .before .before .before .before .before .before .before .before .before .before .before .before .before .before .before .before .before .before .before .before .before .before .before .before .before .before .before .before .before .before .before .before .before .before .before .before .before .before .args .segments))
+array-write-table c = cell-of (c .before .before .before .before .before .before .before .before .before .before .before .before) .entry-place
 
 mul-errors : tie.Need-mul-errors Inv-scan μ-scan Inv-loop2 μ-loop2 Inv-loop μ-loop
-mul-errors c = let few = c .before .before .before .before .before .before .before .before .before .before .before .before .before .before .before .before .before .loop .inv .few in let rows = c .before .before .before .before .before .before .before .before .before .before .before .before .before .before .before .before .before .loop .inv .rows in let on = rows-on (segmentsIn (c .before .before .before .before .before .before .before .before .before .before .before .before .before .before .before .before .before .before .before .before .before .before .before .before .before .before .before .before .before .before .before .before .before .before .before .before .before .before .args .segments)) (c .before .before .before .before .before .before .before .before .before .before .before .before .before .before .before .before .before .before .before .before .before .before .before .before .before .before .before .before .before .before .before .before .before .before .before .before .before .before .pre .0) (c .before .before .before .before .before .before .before .before .before .before .before .before .before .before .before .before .before .before .before .before .before .before .before .before .before .before .before .before .before .before .before .before .before .before .before .before .before .before .args .bound) (c .before .before .before .before .before .before .before .before .before .before .before .before .before .before .before .before .before .before .before .before .before .before .before .before .before .before .before .before .before .before .before .before .before .before .before .before .before .before .pre .1 .0) _ (c .before .before .before .before .before .before .before .before .before .before .before .before .before .before .before .before .before .before .before .before .before .before .before .before .before .before .before .before .last-row .ensures ∙ ap (lastRow (c .before .before .before .before .before .before .before .before .before .before .before .before .before .before .before .before .before .before .before .before .before .before .before .before .before .before .before .before .before .before .before .before .before .before .before .before .before .before .args .bound)) (sym (count-is (c .before .before .before .before .before .before .before .before .before .before .before .before .before .before .before .before .before .before .before .before .before .before .before .before .before .before .before .before .before .before .before .before .before .before .before .before .before .before .args .segments)))) _ (c .before .before .before .before .before .before .before .before .before .before .before .before .before .before .before .before .before .before .before .before .before .before .before .before .before .before .before .before .before .before .before .before .before .before .before .before .before .before .pre .1 .1 .1) _ _ _ _ _ _ _ (c .before .before .before .before .before .before .before .before .before .before .before .before .before .before .before .before .before .loop .inv) (c .before .before .before .before .before .before .before .before .before .before .before .before .before .before .before .before .loop-test .taken) in let taken = c .before .before .before .before .before .before .before .before .before .before .before .before .before .if1 .taken in omega (arith, count-is (c .before .before .before .before .before .before .before .before .before .before .before .before .before .before .before .before .before .before .before .before .before .before .before .before .before .before .before .before .before .before .before .before .before .before .before .before .before .before .args .segments))
+mul-errors c = cell-of (c .before .before .before .before .before .before .before .before .before .before .before .before) .place .offset
 
-array-write-errors : tie.Need-array-write-errors Inv-scan μ-scan Inv-loop2 μ-loop2 Inv-loop μ-loop
-array-write-errors c = let few = c .before .before .before .before .before .before .before .before .before .before .before .before .before .before .before .before .before .loop .inv .few in let rows = c .before .before .before .before .before .before .before .before .before .before .before .before .before .before .before .before .before .loop .inv .rows in let on = rows-on (segmentsIn (c .before .before .before .before .before .before .before .before .before .before .before .before .before .before .before .before .before .before .before .before .before .before .before .before .before .before .before .before .before .before .before .before .before .before .before .before .before .before .args .segments)) (c .before .before .before .before .before .before .before .before .before .before .before .before .before .before .before .before .before .before .before .before .before .before .before .before .before .before .before .before .before .before .before .before .before .before .before .before .before .before .pre .0) (c .before .before .before .before .before .before .before .before .before .before .before .before .before .before .before .before .before .before .before .before .before .before .before .before .before .before .before .before .before .before .before .before .before .before .before .before .before .before .args .bound) (c .before .before .before .before .before .before .before .before .before .before .before .before .before .before .before .before .before .before .before .before .before .before .before .before .before .before .before .before .before .before .before .before .before .before .before .before .before .before .pre .1 .0) _ (c .before .before .before .before .before .before .before .before .before .before .before .before .before .before .before .before .before .before .before .before .before .before .before .before .before .before .before .before .last-row .ensures ∙ ap (lastRow (c .before .before .before .before .before .before .before .before .before .before .before .before .before .before .before .before .before .before .before .before .before .before .before .before .before .before .before .before .before .before .before .before .before .before .before .before .before .before .args .bound)) (sym (count-is (c .before .before .before .before .before .before .before .before .before .before .before .before .before .before .before .before .before .before .before .before .before .before .before .before .before .before .before .before .before .before .before .before .before .before .before .before .before .before .args .segments)))) _ (c .before .before .before .before .before .before .before .before .before .before .before .before .before .before .before .before .before .before .before .before .before .before .before .before .before .before .before .before .before .before .before .before .before .before .before .before .before .before .pre .1 .1 .1) _ _ _ _ _ _ _ (c .before .before .before .before .before .before .before .before .before .before .before .before .before .before .before .before .before .loop .inv) (c .before .before .before .before .before .before .before .before .before .before .before .before .before .before .before .before .loop-test .taken) in let taken = c .before .before .before .before .before .before .before .before .before .before .before .before .before .if1 .taken in omega (arith, count-is (c .before .before .before .before .before .before .before .before .before .before .before .before .before .before .before .before .before .before .before .before .before .before .before .before .before .before .before .before .before .before .before .before .before .before .before .before .before .before .args .segments))
+element-write-errors : tie.Need-element-write-errors Inv-scan μ-scan Inv-loop2 μ-loop2 Inv-loop μ-loop
+element-write-errors c = cell-of (c .before .before .before .before .before .before .before .before .before .before .before .before) .place .inside
 
 add-weighed : tie.Need-add-weighed Inv-scan μ-scan Inv-loop2 μ-loop2 Inv-loop μ-loop
-add-weighed c =
-    let few = c .before .before .before .before .before .before .before .before .before .before .before .before .before .before .before .before .before .before .loop .inv .few in let rows = c .before .before .before .before .before .before .before .before .before .before .before .before .before .before .before .before .before .before .loop .inv .rows in let first = c .before .before .before .before .before .before .before .before .before .before .before .before .before .before .before .before .before .before .loop .inv .from in let on = rows-on (segmentsIn (c .before .before .before .before .before .before .before .before .before .before .before .before .before .before .before .before .before .before .before .before .before .before .before .before .before .before .before .before .before .before .before .before .before .before .before .before .before .before .before .args .segments)) (c .before .before .before .before .before .before .before .before .before .before .before .before .before .before .before .before .before .before .before .before .before .before .before .before .before .before .before .before .before .before .before .before .before .before .before .before .before .before .before .pre .0) (c .before .before .before .before .before .before .before .before .before .before .before .before .before .before .before .before .before .before .before .before .before .before .before .before .before .before .before .before .before .before .before .before .before .before .before .before .before .before .before .args .bound) (c .before .before .before .before .before .before .before .before .before .before .before .before .before .before .before .before .before .before .before .before .before .before .before .before .before .before .before .before .before .before .before .before .before .before .before .before .before .before .before .pre .1 .0) _ (c .before .before .before .before .before .before .before .before .before .before .before .before .before .before .before .before .before .before .before .before .before .before .before .before .before .before .before .before .before .last-row .ensures ∙ ap (lastRow (c .before .before .before .before .before .before .before .before .before .before .before .before .before .before .before .before .before .before .before .before .before .before .before .before .before .before .before .before .before .before .before .before .before .before .before .before .before .before .before .args .bound)) (sym (count-is (c .before .before .before .before .before .before .before .before .before .before .before .before .before .before .before .before .before .before .before .before .before .before .before .before .before .before .before .before .before .before .before .before .before .before .before .before .before .before .before .args .segments)))) _ (c .before .before .before .before .before .before .before .before .before .before .before .before .before .before .before .before .before .before .before .before .before .before .before .before .before .before .before .before .before .before .before .before .before .before .before .before .before .before .before .pre .1 .1 .1) _ _ _ _ _ _ _ (c .before .before .before .before .before .before .before .before .before .before .before .before .before .before .before .before .before .before .loop .inv) (c .before .before .before .before .before .before .before .before .before .before .before .before .before .before .before .before .before .loop-test .taken) in let taken = c .before .before .before .before .before .before .before .before .before .before .before .before .before .before .if1 .taken in
-    let small = count-small (segmentsIn (c .before .before .before .before .before .before .before .before .before .before .before .before .before .before .before .before .before .before .before .before .before .before .before .before .before .before .before .before .before .before .before .before .before .before .before .before .before .before .before .args .segments)) _ _ _ _ _ (c .before .before .before .before .before .before .before .before .before .before .before .before .before .before .before .before .loop2 .inv) _ (found-is (c .before .before)) (omega arith) (omega arith) few (omega (arith, count-is (c .before .before .before .before .before .before .before .before .before .before .before .before .before .before .before .before .before .before .before .before .before .before .before .before .before .before .before .before .before .before .before .before .before .before .before .before .before .before .before .args .segments))) in
-    omega arith
-
-add-i : tie.Need-add-i Inv-scan μ-scan Inv-loop2 μ-loop2 Inv-loop μ-loop
-add-i c = let few = c .before .before .before .before .before .before .before .before .before .before .before .before .before .before .before .before .before .before .loop .inv .few in let taken = c .before .before .before .before .before .before .before .before .before .before .before .before .before .before .if1 .taken in omega (arith, count-is (c .before .before .before .before .before .before .before .before .before .before .before .before .before .before .before .before .before .before .before .before .before .before .before .before .before .before .before .before .before .before .before .before .before .before .before .before .before .before .before .args .segments))
+add-weighed c = count-fits (c .before .before .before .before .before .before .before .before .before .before .before .before .before .before .loop2 .inv) (c .before .before .before .before .before .before .before .before .before .before .before .before .before .loop2-test .taken) (found (c .before .before))
 
 loop2-less : tie.Need-loop2-less Inv-scan μ-scan Inv-loop2 μ-loop2 Inv-loop μ-loop
-loop2-less c = let taken = c .before .before .before .before .before .before .before .before .before .before .before .before .before .before .if1 .taken in omega arith
+loop2-less c = cell-of (c .before .before .before .before .before .before .before .before .before .before .before .before .before) .falls
 
 loop2-again : tie.Need-loop2-again Inv-scan μ-scan Inv-loop2 μ-loop2 Inv-loop μ-loop
-loop2-again c =
-    let few = c .before .before .before .before .before .before .before .before .before .before .before .before .before .before .before .before .before .before .loop .inv .few in let rows = c .before .before .before .before .before .before .before .before .before .before .before .before .before .before .before .before .before .before .loop .inv .rows in let first = c .before .before .before .before .before .before .before .before .before .before .before .before .before .before .before .before .before .before .loop .inv .from in let on = rows-on (segmentsIn (c .before .before .before .before .before .before .before .before .before .before .before .before .before .before .before .before .before .before .before .before .before .before .before .before .before .before .before .before .before .before .before .before .before .before .before .before .before .before .before .args .segments)) (c .before .before .before .before .before .before .before .before .before .before .before .before .before .before .before .before .before .before .before .before .before .before .before .before .before .before .before .before .before .before .before .before .before .before .before .before .before .before .before .pre .0) (c .before .before .before .before .before .before .before .before .before .before .before .before .before .before .before .before .before .before .before .before .before .before .before .before .before .before .before .before .before .before .before .before .before .before .before .before .before .before .before .args .bound) (c .before .before .before .before .before .before .before .before .before .before .before .before .before .before .before .before .before .before .before .before .before .before .before .before .before .before .before .before .before .before .before .before .before .before .before .before .before .before .before .pre .1 .0) _ (c .before .before .before .before .before .before .before .before .before .before .before .before .before .before .before .before .before .before .before .before .before .before .before .before .before .before .before .before .before .last-row .ensures ∙ ap (lastRow (c .before .before .before .before .before .before .before .before .before .before .before .before .before .before .before .before .before .before .before .before .before .before .before .before .before .before .before .before .before .before .before .before .before .before .before .before .before .before .before .args .bound)) (sym (count-is (c .before .before .before .before .before .before .before .before .before .before .before .before .before .before .before .before .before .before .before .before .before .before .before .before .before .before .before .before .before .before .before .before .before .before .before .before .before .before .before .args .segments)))) _ (c .before .before .before .before .before .before .before .before .before .before .before .before .before .before .before .before .before .before .before .before .before .before .before .before .before .before .before .before .before .before .before .before .before .before .before .before .before .before .before .pre .1 .1 .1) _ _ _ _ _ _ _ (c .before .before .before .before .before .before .before .before .before .before .before .before .before .before .before .before .before .before .loop .inv) (c .before .before .before .before .before .before .before .before .before .before .before .before .before .before .before .before .before .loop-test .taken) in let taken = c .before .before .before .before .before .before .before .before .before .before .before .before .before .before .if1 .taken in
-    cells-next (segmentsIn (c .before .before .before .before .before .before .before .before .before .before .before .before .before .before .before .before .before .before .before .before .before .before .before .before .before .before .before .before .before .before .before .before .before .before .before .before .before .before .before .args .segments)) _ _ _ _ _ (c .before .before .before .before .before .before .before .before .before .before .before .before .before .before .before .before .loop2 .inv) _ (found-is (c .before .before)) (omega arith) (omega arith) few (omega (arith, count-is (c .before .before .before .before .before .before .before .before .before .before .before .before .before .before .before .before .before .before .before .before .before .before .before .before .before .before .before .before .before .before .before .before .before .before .before .before .before .before .before .args .segments)))
+loop2-again c = cells-next (c .before .before .before .before .before .before .before .before .before .before .before .before .before .before .loop2 .inv) (c .before .before .before .before .before .before .before .before .before .before .before .before .before .loop2-test .taken) (found (c .before .before))
 
 mul-column-2 : tie.Need-mul-column-2 Inv-scan μ-scan Inv-loop2 μ-loop2 Inv-loop μ-loop
-mul-column-2 c = let few = c .before .before .before .before .loop .inv .few in omega (arith, count-is (c .before .before .before .before .before .before .before .before .before .before .before .before .before .before .before .before .before .before .before .before .before .before .before .before .before .args .segments))
+mul-column-2 c = row-of (c .before .before) .whole .offset
 
-array-read-column-2 :
-    tie.Need-array-read-column-2 Inv-scan μ-scan Inv-loop2 μ-loop2 Inv-loop μ-loop
-array-read-column-2 c = let few = c .before .before .before .before .loop .inv .few in omega (arith, count-is (c .before .before .before .before .before .before .before .before .before .before .before .before .before .before .before .before .before .before .before .before .before .before .before .before .before .args .segments))
+element-copy-out-column-2 : tie.Need-element-copy-out-column-2 Inv-scan μ-scan Inv-loop2 μ-loop2 Inv-loop μ-loop
+element-copy-out-column-2 c = row-of (c .before .before) .whole .inside
 
 mul-column-3 : tie.Need-mul-column-3 Inv-scan μ-scan Inv-loop2 μ-loop2 Inv-loop μ-loop
-mul-column-3 c = let rows = c .before .before .before .before .loop .inv .rows in let on = rows-on (segmentsIn (c .before .before .before .before .before .before .before .before .before .before .before .before .before .before .before .before .before .before .before .before .before .before .before .before .before .args .segments)) (c .before .before .before .before .before .before .before .before .before .before .before .before .before .before .before .before .before .before .before .before .before .before .before .before .before .pre .0) (c .before .before .before .before .before .before .before .before .before .before .before .before .before .before .before .before .before .before .before .before .before .before .before .before .before .args .bound) (c .before .before .before .before .before .before .before .before .before .before .before .before .before .before .before .before .before .before .before .before .before .before .before .before .before .pre .1 .0) _ (c .before .before .before .before .before .before .before .before .before .before .before .before .before .before .before .last-row .ensures ∙ ap (lastRow (c .before .before .before .before .before .before .before .before .before .before .before .before .before .before .before .before .before .before .before .before .before .before .before .before .before .args .bound)) (sym (count-is (c .before .before .before .before .before .before .before .before .before .before .before .before .before .before .before .before .before .before .before .before .before .before .before .before .before .args .segments)))) _ (c .before .before .before .before .before .before .before .before .before .before .before .before .before .before .before .before .before .before .before .before .before .before .before .before .before .pre .1 .1 .1) _ _ _ _ _ _ _ (c .before .before .before .before .loop .inv) (c .before .before .before .loop-test .taken) in omega arith
+mul-column-3 c = row-of (c .before .before .before) .row-offset
 
-array-write-column-2 :
-    tie.Need-array-write-column-2 Inv-scan μ-scan Inv-loop2 μ-loop2 Inv-loop μ-loop
-array-write-column-2 c = let rows = c .before .before .before .before .loop .inv .rows in let on = rows-on (segmentsIn (c .before .before .before .before .before .before .before .before .before .before .before .before .before .before .before .before .before .before .before .before .before .before .before .before .before .args .segments)) (c .before .before .before .before .before .before .before .before .before .before .before .before .before .before .before .before .before .before .before .before .before .before .before .before .before .pre .0) (c .before .before .before .before .before .before .before .before .before .before .before .before .before .before .before .before .before .before .before .before .before .before .before .before .before .args .bound) (c .before .before .before .before .before .before .before .before .before .before .before .before .before .before .before .before .before .before .before .before .before .before .before .before .before .pre .1 .0) _ (c .before .before .before .before .before .before .before .before .before .before .before .before .before .before .before .last-row .ensures ∙ ap (lastRow (c .before .before .before .before .before .before .before .before .before .before .before .before .before .before .before .before .before .before .before .before .before .before .before .before .before .args .bound)) (sym (count-is (c .before .before .before .before .before .before .before .before .before .before .before .before .before .before .before .before .before .before .before .before .before .before .before .before .before .args .segments)))) _ (c .before .before .before .before .before .before .before .before .before .before .before .before .before .before .before .before .before .before .before .before .before .before .before .before .before .pre .1 .1 .1) _ _ _ _ _ _ _ (c .before .before .before .before .loop .inv) (c .before .before .before .loop-test .taken) in omega arith
+array-write-column-2 : tie.Need-array-write-column-2 Inv-scan μ-scan Inv-loop2 μ-loop2 Inv-loop μ-loop
+array-write-column-2 c = row-of (c .before .before .before) .row
 
 goes-on-requires-2 : tie.Need-goes-on-requires-2 Inv-scan μ-scan Inv-loop2 μ-loop2 Inv-loop μ-loop
-goes-on-requires-2 c κs =
-    let rows = c .before .before .before .before .before .loop .inv .rows in let inside = c .before .before .before .before .before .loop .inv .segments in let on = rows-on (segmentsIn (c .before .before .before .before .before .before .before .before .before .before .before .before .before .before .before .before .before .before .before .before .before .before .before .before .before .before .args .segments)) (c .before .before .before .before .before .before .before .before .before .before .before .before .before .before .before .before .before .before .before .before .before .before .before .before .before .before .pre .0) (c .before .before .before .before .before .before .before .before .before .before .before .before .before .before .before .before .before .before .before .before .before .before .before .before .before .before .args .bound) (c .before .before .before .before .before .before .before .before .before .before .before .before .before .before .before .before .before .before .before .before .before .before .before .before .before .before .pre .1 .0) _ (c .before .before .before .before .before .before .before .before .before .before .before .before .before .before .before .before .last-row .ensures ∙ ap (lastRow (c .before .before .before .before .before .before .before .before .before .before .before .before .before .before .before .before .before .before .before .before .before .before .before .before .before .before .args .bound)) (sym (count-is (c .before .before .before .before .before .before .before .before .before .before .before .before .before .before .before .before .before .before .before .before .before .before .before .before .before .before .args .segments)))) _ (c .before .before .before .before .before .before .before .before .before .before .before .before .before .before .before .before .before .before .before .before .before .before .before .before .before .before .pre .1 .1 .1) _ _ _ _ _ _ _ (c .before .before .before .before .before .loop .inv) (c .before .before .before .before .loop-test .taken) in let left = c .before .if1 .left in
-    comparable (segmentsIn (c .before .before .before .before .before .before .before .before .before .before .before .before .before .before .before .before .before .before .before .before .before .before .before .before .before .before .args .segments)) (c .before .before .before .before .before .before .before .before .before .before .before .before .before .before .before .before .before .before .before .before .before .before .before .before .before .before .pre .0) _ _ _ (c .before .before .before .before .before .before .before .before .before .before .before .before .before .before .before .before .before .before .before .before .before .before .before .before .before .before .pre .1 .1 .1) (column-next (segmentsIn (c .before .before .before .before .before .before .before .before .before .before .before .before .before .before .before .before .before .before .before .before .before .before .before .before .before .before .args .segments)) (c .before .before .before .before .before .before .before .before .before .before .before .before .before .before .before .before .before .before .before .before .before .before .before .before .before .before .pre .0) (c .before .before .before .before .before .before .before .before .before .before .before .before .before .before .before .before .before .before .before .before .before .before .before .before .before .before .args .bound) (c .before .before .before .before .before .before .before .before .before .before .before .before .before .before .before .before .before .before .before .before .before .before .before .before .before .before .pre .1 .0) _ (c .before .before .before .before .before .before .before .before .before .before .before .before .before .before .before .before .last-row .ensures ∙ ap (lastRow (c .before .before .before .before .before .before .before .before .before .before .before .before .before .before .before .before .before .before .before .before .before .before .before .before .before .before .args .bound)) (sym (count-is (c .before .before .before .before .before .before .before .before .before .before .before .before .before .before .before .before .before .before .before .before .before .before .before .before .before .before .args .segments)))) _ (c .before .before .before .before .before .before .before .before .before .before .before .before .before .before .before .before .before .before .before .before .before .before .before .before .before .before .pre .1 .1 .1) _ _ _ _ _ _ _ (c .before .before .before .before .before .loop .inv) _ _ _ _ (c .before .before .before .loop2 .inv) (c .before .before .before .before .loop-test .taken) (omega (arith, count-is (c .before .before .before .before .before .before .before .before .before .before .before .before .before .before .before .before .before .before .before .before .before .before .before .before .before .before .args .segments))) _ (last-of (c .before .before .before .before .before .before .before .before .before .before .before .before .before .before .before .before .before .before .before .before .before .before .before .before .before .before .args .segments) (c .before .before .before .before .before .loop .k + 1) _ (c .before .before .before .loop2 .inv .errors-at (c .before .before .before .before .before .before .before .before .before .before .before .before .before .before .before .before .before .before .before .before .before .before .before .before .before .before .args .segments .count) (omega (arith, count-is (c .before .before .before .before .before .before .before .before .before .before .before .before .before .before .before .before .before .before .before .before .before .before .before .before .before .before .args .segments))) (omega arith)))) (omega arith) _ (c .before .before .before .before .before .before .before .before .before .before .before .before .before .before .before .before .before .before .before .before .before .before .before .before .before .before .pre .1 .0) (omega arith)
+goes-on-requires-2 c κs = compares (filled-next (c .before .before .before .before .before .loop .inv .0) (c .before .before .before .before .before .loop .inv .1) (c .before .before .before .loop2 .inv) (c .before .before .loop2-test .left) (c .before .before .before .before .loop-test .taken))
 
 loop-less : tie.Need-loop-less Inv-scan μ-scan Inv-loop2 μ-loop2 Inv-loop μ-loop
-loop-less c = let on = rows-on (segmentsIn (c .before .before .before .before .before .before .before .before .before .before .before .before .before .before .before .before .before .before .before .before .before .before .before .before .before .before .before .args .segments)) (c .before .before .before .before .before .before .before .before .before .before .before .before .before .before .before .before .before .before .before .before .before .before .before .before .before .before .before .pre .0) (c .before .before .before .before .before .before .before .before .before .before .before .before .before .before .before .before .before .before .before .before .before .before .before .before .before .before .before .args .bound) (c .before .before .before .before .before .before .before .before .before .before .before .before .before .before .before .before .before .before .before .before .before .before .before .before .before .before .before .pre .1 .0) _ (c .before .before .before .before .before .before .before .before .before .before .before .before .before .before .before .before .before .last-row .ensures ∙ ap (lastRow (c .before .before .before .before .before .before .before .before .before .before .before .before .before .before .before .before .before .before .before .before .before .before .before .before .before .before .before .args .bound)) (sym (count-is (c .before .before .before .before .before .before .before .before .before .before .before .before .before .before .before .before .before .before .before .before .before .before .before .before .before .before .before .args .segments)))) _ (c .before .before .before .before .before .before .before .before .before .before .before .before .before .before .before .before .before .before .before .before .before .before .before .before .before .before .before .pre .1 .1 .1) _ _ _ _ _ _ _ (c .before .before .before .before .before .before .loop .inv) (c .before .before .before .before .before .loop-test .taken) in omega arith
+loop-less c = row-of (c .before .before .before .before .before) .falls
 
 loop-again : tie.Need-loop-again Inv-scan μ-scan Inv-loop2 μ-loop2 Inv-loop μ-loop
-loop-again c =
-    let rows = c .before .before .before .before .before .before .loop .inv .rows in let inside = c .before .before .before .before .before .before .loop .inv .segments in let on = rows-on (segmentsIn (c .before .before .before .before .before .before .before .before .before .before .before .before .before .before .before .before .before .before .before .before .before .before .before .before .before .before .before .args .segments)) (c .before .before .before .before .before .before .before .before .before .before .before .before .before .before .before .before .before .before .before .before .before .before .before .before .before .before .before .pre .0) (c .before .before .before .before .before .before .before .before .before .before .before .before .before .before .before .before .before .before .before .before .before .before .before .before .before .before .before .args .bound) (c .before .before .before .before .before .before .before .before .before .before .before .before .before .before .before .before .before .before .before .before .before .before .before .before .before .before .before .pre .1 .0) _ (c .before .before .before .before .before .before .before .before .before .before .before .before .before .before .before .before .before .last-row .ensures ∙ ap (lastRow (c .before .before .before .before .before .before .before .before .before .before .before .before .before .before .before .before .before .before .before .before .before .before .before .before .before .before .before .args .bound)) (sym (count-is (c .before .before .before .before .before .before .before .before .before .before .before .before .before .before .before .before .before .before .before .before .before .before .before .before .before .before .before .args .segments)))) _ (c .before .before .before .before .before .before .before .before .before .before .before .before .before .before .before .before .before .before .before .before .before .before .before .before .before .before .before .pre .1 .1 .1) _ _ _ _ _ _ _ (c .before .before .before .before .before .before .loop .inv) (c .before .before .before .before .before .loop-test .taken) in let left = c .before .before .if1 .left in
-    rows-next (segmentsIn (c .before .before .before .before .before .before .before .before .before .before .before .before .before .before .before .before .before .before .before .before .before .before .before .before .before .before .before .args .segments)) (c .before .before .before .before .before .before .before .before .before .before .before .before .before .before .before .before .before .before .before .before .before .before .before .before .before .before .before .pre .0) (c .before .before .before .before .before .before .before .before .before .before .before .before .before .before .before .before .before .before .before .before .before .before .before .before .before .before .before .args .bound) (c .before .before .before .before .before .before .before .before .before .before .before .before .before .before .before .before .before .before .before .before .before .before .before .before .before .before .before .pre .1 .0) _ (c .before .before .before .before .before .before .before .before .before .before .before .before .before .before .before .before .before .last-row .ensures ∙ ap (lastRow (c .before .before .before .before .before .before .before .before .before .before .before .before .before .before .before .before .before .before .before .before .before .before .before .before .before .before .before .args .bound)) (sym (count-is (c .before .before .before .before .before .before .before .before .before .before .before .before .before .before .before .before .before .before .before .before .before .before .before .before .before .before .before .args .segments)))) _ (c .before .before .before .before .before .before .before .before .before .before .before .before .before .before .before .before .before .before .before .before .before .before .before .before .before .before .before .pre .1 .1 .1) _ _ _ _ _ _ _ (c .before .before .before .before .before .before .loop .inv) _ _ _ _ (c .before .before .before .before .loop2 .inv) (c .before .before .before .before .before .loop-test .taken) (omega (arith, count-is (c .before .before .before .before .before .before .before .before .before .before .before .before .before .before .before .before .before .before .before .before .before .before .before .before .before .before .before .args .segments))) _ (last-of (c .before .before .before .before .before .before .before .before .before .before .before .before .before .before .before .before .before .before .before .before .before .before .before .before .before .before .before .args .segments) (c .before .before .before .before .before .before .loop .k + 1) _ (c .before .before .before .before .loop2 .inv .errors-at (c .before .before .before .before .before .before .before .before .before .before .before .before .before .before .before .before .before .before .before .before .before .before .before .before .before .before .before .args .segments .count) (omega (arith, count-is (c .before .before .before .before .before .before .before .before .before .before .before .before .before .before .before .before .before .before .before .before .before .before .before .before .before .before .before .args .segments))) (omega arith))) _ (c .goes-on2 .ensures)
+loop-again c = (filled-next (c .before .before .before .before .before .before .loop .inv .0) (c .before .before .before .before .before .before .loop .inv .1) (c .before .before .before .before .loop2 .inv) (c .before .before .before .loop2-test .left) (c .before .before .before .before .before .loop-test .taken), c .goes-on2 .ensures)
+
+answer-in-requires : tie.Need-answer-in-requires Inv-scan μ-scan Inv-loop2 μ-loop2 Inv-loop μ-loop
+answer-in-requires c κs =
+    let pre = c .before .before .before .before .before .before .before .before .before .before .pre in
+    (pre .0 .measured, (pre .1 .1 .0, (pre .1 .1 .1, fills (c .before .before .before .loop .inv .0) (c .before .before .before .loop .inv .1) (c .before .before .loop-test .left))))
 
 returns : tie.Need-returns Inv-scan μ-scan Inv-loop2 μ-loop2 Inv-loop μ-loop
-returns c = fills (segmentsIn (c .before .before .before .before .before .before .before .before .before .before .before .before .before .before .before .before .before .before .before .before .before .before .args .segments)) (c .before .before .before .before .before .before .before .before .before .before .before .before .before .before .before .before .before .before .before .before .before .before .pre .0) (c .before .before .before .before .before .before .before .before .before .before .before .before .before .before .before .before .before .before .before .before .before .before .args .bound) (c .before .before .before .before .before .before .before .before .before .before .before .before .before .before .before .before .before .before .before .before .before .before .pre .1 .0) _ (c .before .before .before .before .before .before .before .before .before .before .before .before .last-row .ensures ∙ ap (lastRow (c .before .before .before .before .before .before .before .before .before .before .before .before .before .before .before .before .before .before .before .before .before .before .args .bound)) (sym (count-is (c .before .before .before .before .before .before .before .before .before .before .before .before .before .before .before .before .before .before .before .before .before .before .args .segments)))) _ (c .before .before .before .before .before .before .before .before .before .before .before .before .before .before .before .before .before .before .before .before .before .before .pre .1 .1 .1) _ _ _ _ _ _ _ (c .before .loop .inv) (c .loop-test .left)
+returns c = search needs
 
 pub fill-spec : {M : Type 1} → statement M
 fill-spec =
@@ -283,35 +237,30 @@ fill-spec =
     μ-loop2
     Inv-loop
     μ-loop
-    lengths-requires
-    values-requires
-    products-requires
-    products-requires-2
-    gaps-requires
     last-row-requires
-    first-row-requires
-    no-errors-requires
     no-column-requires
     mul-column
-    array-read-column
+    element-copy-out-column
     array-write-column
     no-cuts-requires
     goes-on-requires
     loop-holds
     add-k
+    add-i
     loop2-holds
+    sub-i
     sub-later
-    mul-later
-    array-read-later
+    element-copy-out-wide
+    wide-requires
     later-requires
     scan-holds
     sub-at
-    segment-totals-requires
+    totals-at-requires
     add-requires
     error-requires
-    mul-plus
-    array-read-plus
-    plus-requires
+    mul-total
+    element-copy-out-total
+    add-total
     weigh-requires
     scan-less
     scan-again
@@ -321,16 +270,16 @@ fill-spec =
     add-table
     array-write-table
     mul-errors
-    array-write-errors
+    element-write-errors
     add-weighed
-    add-i
     loop2-less
     loop2-again
     mul-column-2
-    array-read-column-2
+    element-copy-out-column-2
     mul-column-3
     array-write-column-2
     goes-on-requires-2
     loop-less
     loop-again
+    answer-in-requires
     returns)

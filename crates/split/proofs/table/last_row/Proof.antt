@@ -1,7 +1,7 @@
 -- `table::last_row` meets its contract. Assumes nothing.
 use borrow.Author.Needs.{needs}
 use Rattle.model.specs.Split.{mostRows}
-use Rattle.split.specs.Held.{lastRow}
+use Rattle.cuts.specs.Held.{lastRow}
 use Rattle.split.proofs.table.last_row.Statement.{statement}
 use Rattle.split.proofs.table.last_row.Tie as tie
 

@@ -1,31 +1,35 @@
 -- `Best::weigh` meets its contract. Assumes nothing.
+use mathlib.Core.Path.{refl}
 use native.Mathlib.Omega.{arith}
 use native.Mathlib.Numerals.{add-one}
-use borrow.Author.Tests.{lt-ltb, le-ltb}
+use lib.Dec.{ltb}
 use borrow.Author.Needs.{needs}
+use borrow.Author.Tests.{ltb-true}
 use Rattle.model.specs.Split.{weigh}
+use Rattle.theory.proofs.Tests.{cases}
+use Rattle.cuts.proofs.Errors.{below-in}
 use Rattle.split.specs.Held.{bestIn}
-use Rattle.split.proofs.Errors.{below-in}
 use Rattle.split.proofs.table.Best.weigh.Statement.{statement}
 use Rattle.split.proofs.table.Best.weigh.Tie as tie
 
-add-t5 : tie.Need-add-t5
-add-t5 c = search needs
+pick-total-requires : tie.Need-pick-total-requires
+pick-total-requires c κs = search needs
+
+pick-requires : tie.Need-pick-requires
+pick-requires c κs = search needs
+
+add-t7 : tie.Need-add-t7
+add-t7 c = search needs
 
 returns : tie.Need-returns
 unfolding bestIn weigh
 returns c =
-    let a = c .before .before .before .args in
-    rw (below-in (a .total) (a .self .total) (omega arith) (omega arith), lt-ltb _ _ (c .before .if1 .taken), add-one)
-
-add-t6 : tie.Need-add-t6
-add-t6 c = search needs
-
-returns-2 : tie.Need-returns-2
-unfolding bestIn weigh
-returns-2 c =
-    let a = c .before .before .before .args in
-    rw (below-in (a .total) (a .self .total) (omega arith) (omega arith), le-ltb _ _ (c .before .if1 .left), add-one)
+    let a = c .before .before .before .before .args in
+    let small = c .before .before .before .before .pre .1 in
+    rw (c .before .before .pick-total .ensures, c .before .pick .ensures, below-in (a .total) (a .self .total) small, add-one)
+    (cases (ltb (a .total) (a .self .total))
+    (λ e. let lt = ltb-true (a .total) (a .self .total) e in rw e (refl, omega arith))
+    (λ e. rw e (refl, small)))
 
 pub weigh-spec : {M : Type 1} → statement M
-weigh-spec = tie.close (tie.spec add-t5 returns add-t6 returns-2)
+weigh-spec = tie.close (tie.spec pick-total-requires pick-requires add-t7 returns)
