@@ -1,7 +1,7 @@
 -- Joined spans: joining what is joined already changes nothing, more spans behind make no fewer segments, and a span behind
 -- joined ones concerns the last of them alone. Assumes nothing.
 use Prim.Native.Nat.{ℕ, suc, _≤_, zero-le}
-use mathlib.Core.Bool.{true, false, _&&_}
+use mathlib.Core.Bool.{Bool, true, false, _&&_}
 use mathlib.Core.List.{List, [], _∷_, _++_, foldr, append-assoc, foldr-append}
 use mathlib.Core.Path.{_≡_, refl, sym, ap, _∙_}
 use native.Mathlib.Omega.{arith}
@@ -11,7 +11,7 @@ use borrow.Author.Tests.{eqb-true}
 use Rattle.model.specs.Spans.{Span, adjacent}
 use Rattle.model.specs.Segments.{join, fuse}
 use Rattle.theory.proofs.Tests.{cases, and-true, adjacent-true, true≢false}
-use Rattle.segments.specs.Steps.{joins, joined, joinsLast}
+use Rattle.segments.specs.Steps.{joins, joined}
 
 -- ---- one span before others
 
@@ -149,6 +149,12 @@ ends {A} (a ∷ l) = by (ends l)
     by : {l : List A} → Ends l → Ends (a ∷ l)
     by no-end = end [] a
     by (end l b) = end (a ∷ l) b
+
+-- a span that comes behind others is adjacent to the last of them and equal to it in value
+unfoldable pub joinsLast : List (Span ℕ) → Span ℕ → Bool
+joinsLast [] s = false
+joinsLast (t ∷ []) s = joins t s
+joinsLast (t ∷ u ∷ spans) s = joinsLast (u ∷ spans) s
 
 -- nothing joins the last of none
 pub joinsLast-none : (s : Span ℕ) → joinsLast [] s ≡ true → ⊥

@@ -92,6 +92,19 @@ module _ (a : ℕ) (h : ℕ → Own) (i count : ℕ) (lt : i < count) where
   unfolding stopAt
   stop-left = ap (stopAt a) (listFrom-left h i count lt)
 
+-- the starts of the sum, of the least and of the greatest
+sum-start : (l : List ℕ) → 0 + foldr _+_ 0 l ≡ foldr _+_ 0 l
+sum-start l = omega arith
+
+pub least-start : (l : List ℕ) → min 65535 (foldr min 65535 l) ≡ foldr min 65535 l
+least-start [] = omega arith
+least-start (x ∷ l) = omega (arith, least-start l)
+
+pub greatest-start : (l : List ℕ) → max 0 (foldr max 0 l) ≡ foldr max 0 l
+greatest-start l = omega arith
+
+-- ---- a survey
+
 -- the first i records have been surveyed: what is found with what the records left have is what all have; and each adds at most 1
 -- to the count and 255 to each half of the sum
 abbrev pub Surveying : ℕ → (ℕ → Own) → ℕ → ℕ → ℕ → ℕ → ℕ → ℕ → Type 0
@@ -105,14 +118,6 @@ Surveying a h own i stop count low high =
 pub byte-le : (b : Bool) → boolByte b ≤ 1
 byte-le true = omega arith
 byte-le false = omega arith
-
--- the starts of the sum, of the least and of the greatest
-sum-start : (l : List ℕ) → 0 + foldr _+_ 0 l ≡ foldr _+_ 0 l
-sum-start l = omega arith
-
-pub least-start : (l : List ℕ) → min 65535 (foldr min 65535 l) ≡ foldr min 65535 l
-least-start [] = omega arith
-least-start (x ∷ l) = omega (arith, least-start l)
 
 pub stop-le : (a : ℕ) (rs : List Own) → stopAt a rs ≤ 65535
 unfolding stopAt
@@ -148,9 +153,6 @@ module _ (a : ℕ) (h : ℕ → Own) (own : ℕ) where
       let none-left : own - i ≡ 0 = omega arith in
       let (bounds, stops, counts, sums) = rw none-left at found in
       (omega arith, omega arith, omega arith)
-
-pub greatest-start : (l : List ℕ) → max 0 (foldr max 0 l) ≡ foldr max 0 l
-greatest-start l = omega arith
 
 -- ---- the value of a frame
 

@@ -13,8 +13,8 @@ use Rattle.model.specs.Arrays.{spanIn, segmentsIn, segmentArrays}
 use Rattle.model.specs.declared.Segments.{Segments}
 use Rattle.theory.proofs.SlotLaws.{length-listFrom}
 use Rattle.log.proofs.Columns.{listFrom-snoc, column-snoc, column-again, column-more, segments-held}
-use Rattle.segments.specs.Steps.{joins, joined, joinsLast, Made}
-use Rattle.segments.proofs.Joining.{Apart, Ends, no-end, end, ends, joined-joined, joined-append, joined-le, joined-apart, joinsLast-none, joinsLast-end, last-joined, last-apart}
+use Rattle.segments.specs.Steps.{joins, joined, Made}
+use Rattle.segments.proofs.Joining.{joinsLast, Apart, Ends, no-end, end, ends, joined-joined, joined-append, joined-le, joined-apart, joinsLast-none, joinsLast-end, last-joined, last-apart}
 
 pos-of-ne : (n : ℕ) → (n ≡ 0 → ⊥) → 0 < n
 pos-of-ne zero ne = absurd (ne refl)

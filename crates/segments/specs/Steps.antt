@@ -1,7 +1,7 @@
 -- The steps from records to segments: the records of one group, the last frame before their next event, the loads of those
 -- that hold a frame, and spans that are joined as far as they go.
 use Prim.Native.Nat.{ℕ, _-_, min}
-use mathlib.Core.Bool.{Bool, false, _&&_, cond}
+use mathlib.Core.Bool.{Bool, _&&_, cond}
 use mathlib.Core.List.{List, [], _∷_, _++_, foldr}
 use mathlib.Core.Option.{Option}
 use mathlib.Core.Path.{_≡_}
@@ -70,12 +70,6 @@ joins s t = adjacent s t && eqb (s .value) (t .value)
 -- spans joined wherever neighbours are adjacent and equal in value
 unfoldable pub joined : List (Span ℕ) → List (Span ℕ)
 joined spans = foldr (fuse eqb) [] spans
-
--- a span that comes behind others is adjacent to the last of them and equal to it in value
-unfoldable pub joinsLast : List (Span ℕ) → Span ℕ → Bool
-joinsLast [] s = false
-joinsLast (t ∷ []) s = joins t s
-joinsLast (t ∷ u ∷ spans) s = joinsLast (u ∷ spans) s
 
 unfoldable pub segmentSpan : Segment → Span ℕ
 segmentSpan s = record { group = s .group; first = s .first; last = s .last; value = s .value }

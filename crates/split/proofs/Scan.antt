@@ -6,13 +6,15 @@ use mathlib.Core.Path.{_≡_, refl, _∙_}
 use native.Mathlib.Decide.{decLe}
 use native.Mathlib.Numerals.{add-one}
 use native.Mathlib.Omega.{arith}
-use lib.Dec.{eqb}
+use lib.Dec.{ltb, eqb}
+use borrow.Author.Tests.{ltb-true}
 use Rattle.model.specs.Split.{Best, untried, plus, below, exceeds, weigh, scan, single, cell, least}
 use Rattle.model.specs.Room.{mostError}
 use Rattle.theory.proofs.Tests.{cases, none≢some}
 use Rattle.cuts.specs.Held.{noError, errorIn}
-use Rattle.cuts.proofs.Errors.{none-in, some-in, held}
-use Rattle.split.specs.Held.{Stands}
+use Rattle.cuts.proofs.Errors.{none-in, some-in, held, below-in}
+use Rattle.split.specs.declared.table.Best as code
+use Rattle.split.specs.Held.{Stands, bestIn}
 
 -- ---- a candidate
 
@@ -29,6 +31,17 @@ plus-in b error (some t) is range small =
     let same = held b t (is .is) in
     let low = range t refl in
     rw same (some-in (t + error) (omega arith))
+
+-- a candidate is weighed by comparing numbers
+pub weigh-in : (best : code.Best) (total cut t c : ℕ) → best .total ≤ noError
+    → t ≡ cond (ltb total (best .total)) total (best .total) → c ≡ cond (ltb total (best .total)) cut (best .cut)
+    → (bestIn (record { total = t; cut = c; tried = best .tried + 1 }) ≡ weigh (bestIn best) (errorIn total) cut) × (t ≤ noError)
+unfolding bestIn weigh
+weigh-in best total cut t c small is-total is-cut =
+    rw (is-total, is-cut, below-in total (best .total) small, add-one)
+    (cases (ltb total (best .total))
+    (λ e. let lt = ltb-true total (best .total) e in rw e (refl, omega arith))
+    (λ e. rw e (refl, small)))
 
 module _ (b : Best) (t : Option ℕ) (j : ℕ) where
   pub weigh-tried : (weigh b t j) .tried ≡ suc (b .tried)

@@ -185,14 +185,14 @@ pub record Cells (segs : List (Span ℕ)) (held gaps : List ℕ) (n k : ℕ) (er
   pub places-new : (x : ℕ) → x < 16384 → i ≤ x % 256 → getD table x 0 ≡ tablePlace (errorOf segs) (gapBelow segs) k n x
   pub count : weighed ≡ weighedFrom (errorOf segs) (gapBelow segs) n k i
 
--- the numbers of the cell before i are in range
+-- the numbers of the cell before i are in range, with its entries in row k and, d > 1, in rows before it
 pub record InRow (k i : ℕ) : Type 0 where
   pub cell : 1 ≤ i
-  pub row : 1 ≤ k
+  pub row : (d : ℕ) → d ≤ 2 → d ≤ k
   pub place : Place (i - 1)
-  pub line : Fits w64 ((k - 1) * 256)
-  pub entry : Fits w64 ((k - 1) * 256 + (i - 1))
-  pub entry-place : (k - 1) * 256 + (i - 1) < 16384
+  pub line : (d : ℕ) → Fits w64 ((k - d) * 256)
+  pub entry : (d : ℕ) → Fits w64 ((k - d) * 256 + (i - 1))
+  pub entry-place : (d : ℕ) → 0 < d → (k - d) * 256 + (i - 1) < 16384
   pub falls : i - 1 < i
 
 module _ {segs : List (Span ℕ)} {held gaps : List ℕ} {n k : ℕ} {errors table : List ℕ} {weighed i : ℕ} (inv : Cells segs held gaps n k errors table weighed i) (more : k < i) where
@@ -204,11 +204,11 @@ module _ {segs : List (Span ℕ)} {held gaps : List ℕ} {n k : ℕ} {errors tab
       let to = inv .to in
       record {
         cell = omega arith;
-        row = omega arith;
+        row = λ d le. omega arith;
         place = place (i - 1) (omega arith);
-        line = omega arith;
-        entry = omega arith;
-        entry-place = omega arith;
+        line = λ d. omega arith;
+        entry = λ d. omega arith;
+        entry-place = λ d some. omega arith;
         falls = omega arith;
       }
 

@@ -93,7 +93,8 @@ returns : tie.Need-returns Inv-loop μ-loop
 unfolding listFrom
 returns c =
     let s = c .before in
-    rw (c .if1 .taken, frames-unowned (s .args .kind) (s .args .group) 0 frameCount, append-nil) (s .pre .1 .0)
+    let no-records : s .args .own ≡ 0 = c .if1 .taken in
+    rw (no-records, frames-unowned (s .args .kind) (s .args .group) 0 frameCount, append-nil) (s .pre .1 .0)
 
 loop-holds : tie.Need-loop-holds Inv-loop μ-loop
 loop-holds c = let all : frameCount - 0 ≡ frameCount = omega arith in (omega arith, c .before .pre .1 .0, rw all)

@@ -5,7 +5,8 @@ use mathlib.Core.Bool.{_&&_, not}
 use mathlib.Core.List.{List}
 use mathlib.Core.Logic.{⊎-elim}
 use mathlib.Core.Path.{_≡_, sym, subst}
-use lib.Dec.{ltb, lit<}
+use native.Mathlib.Omega.{arith}
+use lib.Dec.{ltb, lit<, lit≤}
 use lib.ListN.{getD, set}
 use borrow.Author.Needs.{needs}
 use Rattle.model.specs.Spans.{Span}
@@ -120,7 +121,7 @@ sub-i : tie.Need-sub-i Inv-scan μ-scan Inv-loop2 μ-loop2 Inv-loop μ-loop
 sub-i c = cell-of c .cell
 
 sub-later : tie.Need-sub-later Inv-scan μ-scan Inv-loop2 μ-loop2 Inv-loop μ-loop
-sub-later c = cell-of c .row
+sub-later c = cell-of c .row _ (lit≤ tt)
 
 element-copy-out-wide : tie.Need-element-copy-out-wide Inv-scan μ-scan Inv-loop2 μ-loop2 Inv-loop μ-loop
 element-copy-out-wide c = cell-of c .place .inside
@@ -172,22 +173,22 @@ cast-table : tie.Need-cast-table Inv-scan μ-scan Inv-loop2 μ-loop2 Inv-loop μ
 cast-table c = cut-fits (c .before .before .before .before .before .before .before .before .before .before .before .before .before .loop2 .inv) (c .before .before .before .before .before .before .before .before .before .before .before .before .loop2-test .taken) (found (c .before))
 
 sub-table : tie.Need-sub-table Inv-scan μ-scan Inv-loop2 μ-loop2 Inv-loop μ-loop
-sub-table c = cell-of (c .before .before .before .before .before .before .before .before .before .before .before .before) .row
+sub-table c = cell-of (c .before .before .before .before .before .before .before .before .before .before .before .before) .row _ (lit≤ tt)
 
 mul-table : tie.Need-mul-table Inv-scan μ-scan Inv-loop2 μ-loop2 Inv-loop μ-loop
-mul-table c = cell-of (c .before .before .before .before .before .before .before .before .before .before .before .before) .line
+mul-table c = cell-of (c .before .before .before .before .before .before .before .before .before .before .before .before) .line _
 
 add-table : tie.Need-add-table Inv-scan μ-scan Inv-loop2 μ-loop2 Inv-loop μ-loop
-add-table c = cell-of (c .before .before .before .before .before .before .before .before .before .before .before .before) .entry
+add-table c = cell-of (c .before .before .before .before .before .before .before .before .before .before .before .before) .entry _
 
 array-write-table : tie.Need-array-write-table Inv-scan μ-scan Inv-loop2 μ-loop2 Inv-loop μ-loop
-array-write-table c = cell-of (c .before .before .before .before .before .before .before .before .before .before .before .before) .entry-place
+array-write-table c = cell-of (c .before .before .before .before .before .before .before .before .before .before .before .before) .entry-place _ (lit< tt)
 
 mul-errors : tie.Need-mul-errors Inv-scan μ-scan Inv-loop2 μ-loop2 Inv-loop μ-loop
-mul-errors c = cell-of (c .before .before .before .before .before .before .before .before .before .before .before .before) .place .offset
+mul-errors c = omega arith
 
 element-write-errors : tie.Need-element-write-errors Inv-scan μ-scan Inv-loop2 μ-loop2 Inv-loop μ-loop
-element-write-errors c = cell-of (c .before .before .before .before .before .before .before .before .before .before .before .before) .place .inside
+element-write-errors c = omega arith
 
 add-weighed : tie.Need-add-weighed Inv-scan μ-scan Inv-loop2 μ-loop2 Inv-loop μ-loop
 add-weighed c = count-fits (c .before .before .before .before .before .before .before .before .before .before .before .before .before .before .loop2 .inv) (c .before .before .before .before .before .before .before .before .before .before .before .before .before .loop2-test .taken) (found (c .before .before))

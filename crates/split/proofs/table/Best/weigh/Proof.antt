@@ -1,14 +1,6 @@
 -- `Best::weigh` meets its contract. Assumes nothing.
-use mathlib.Core.Path.{refl}
-use native.Mathlib.Omega.{arith}
-use native.Mathlib.Numerals.{add-one}
-use lib.Dec.{ltb}
 use borrow.Author.Needs.{needs}
-use borrow.Author.Tests.{ltb-true}
-use Rattle.model.specs.Split.{weigh}
-use Rattle.theory.proofs.Tests.{cases}
-use Rattle.cuts.proofs.Errors.{below-in}
-use Rattle.split.specs.Held.{bestIn}
+use Rattle.split.proofs.Scan.{weigh-in}
 use Rattle.split.proofs.table.Best.weigh.Statement.{statement}
 use Rattle.split.proofs.table.Best.weigh.Tie as tie
 
@@ -22,14 +14,9 @@ add-t7 : tie.Need-add-t7
 add-t7 c = search needs
 
 returns : tie.Need-returns
-unfolding bestIn weigh
 returns c =
-    let a = c .before .before .before .before .args in
-    let small = c .before .before .before .before .pre .1 in
-    rw (c .before .before .pick-total .ensures, c .before .pick .ensures, below-in (a .total) (a .self .total) small, add-one)
-    (cases (ltb (a .total) (a .self .total))
-    (λ e. let lt = ltb-true (a .total) (a .self .total) e in rw e (refl, omega arith))
-    (λ e. rw e (refl, small)))
+    let s = c .before .before .before .before in
+    weigh-in (s .args .self) _ _ _ _ (s .pre .1) (c .before .before .pick-total .ensures) (c .before .pick .ensures)
 
 pub weigh-spec : {M : Type 1} → statement M
 weigh-spec = tie.close (tie.spec pick-total-requires pick-requires add-t7 returns)
