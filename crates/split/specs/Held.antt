@@ -1,4 +1,5 @@
--- What the code's numbers and arrays stand for: an error, the best candidate, and the totals and gaps of the segments.
+-- What the code's numbers and arrays stand for: an error, the best candidate, the totals and gaps of the segments, and the table's
+-- first row.
 use Prim.Native.Nat.{ℕ, _+_, _*_, _≤_, _<_}
 use mathlib.Core.List.{List}
 use mathlib.Core.Option.{Option}

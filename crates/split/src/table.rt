@@ -69,6 +69,7 @@ fn no_errors() -> [u64; 256]
     [NONE; 256]
 }
 
+// The errors of all segments by row count, all 'none'.
 fn no_column() -> [u64; 65]
     ensures { λ r. ⌜ r ≡ replicate 65 noError ⌝ }
 {
@@ -102,7 +103,7 @@ fn single(gap: usize, error: u64) -> u64
     if gap == 0 { error } else { NONE }
 }
 
-// The table's first row of errors, from the totals and gaps of the segments.
+// The table's first row of errors, of whatever segments these are the totals and gaps.
 fn first_row(totals: &[u64; 765], gaps: &[u8; 256], n: usize, errors: &mut [u64; 256])
     requires { ⌜ ((segs : List (Span ℕ)) × Ready segs (now totals) (now gaps) n) ⌝ }
     requires { ⌜ (length (now errors) ≡ 256) × (getD (now errors) 0 0 ≡ noError) ⌝ }
@@ -167,8 +168,7 @@ fn fill(
     let mut table = no_cuts();
     let mut weighed: u64 = 0;
     let mut k: usize = 1;
-    let mut more = goes_on(bound, &column, parts, k, last);
-    while more {
+    while goes_on(bound, &column, parts, k, last) {
         k += 1;
         let mut i: usize = n + 1;
         while k < i {
@@ -201,7 +201,6 @@ fn fill(
             weighed += found.tried;
         }
         column[k] = errors[n];
-        more = goes_on(bound, &column, parts, k, last);
     }
     cuts::answer_in(
         &table,

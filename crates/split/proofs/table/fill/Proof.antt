@@ -1,67 +1,55 @@
 -- `table::fill` meets its contract. Between rows the table is filled to row `k`; between cells, from cell `i` on; between
 -- candidates, what is left of the scan is the cell. Assumes nothing.
 use Prim.Native.Nat.{ℕ, _+_, _-_}
-use mathlib.Core.Bool.{_&&_, not}
 use mathlib.Core.List.{List}
 use mathlib.Core.Logic.{⊎-elim}
-use mathlib.Core.Path.{_≡_, sym, subst}
+use mathlib.Core.Path.{sym, subst}
 use native.Mathlib.Omega.{arith}
-use lib.Dec.{ltb, lit<, lit≤}
-use lib.ListN.{getD, set}
+use lib.Dec.{lit<, lit≤}
 use borrow.Author.Needs.{needs}
 use Rattle.model.specs.Spans.{Span}
 use Rattle.model.specs.Blocks.{empty}
 use Rattle.model.specs.Arrays.{spansIn}
 use Rattle.blocks.specs.Meaning.{totalsIn}
-use Rattle.cuts.specs.Held.{meetsIn}
 use Rattle.split.proofs.Grown.{Grown}
 use Rattle.split.proofs.Steps.{Scanning, Found, InScan, in-scan, candidate, Cells, InRow, in-row, Filled, InTable, total-fits, scan-early, scan-last, scan-next, scan-start, cut-fits, count-fits, cells-next, all-place, filled-start, compares, in-table, cells-start, filled-next, fills}
 use Rattle.split.proofs.table.fill.Statement.{statement}
 use Rattle.split.proofs.table.fill.Tie as tie
 
 abbrev Inv-scan : tie.InvT-scan
-Inv-scan totals gaps errors groups firsts lasts values n bound parts last column table weighed k more i low at₀ block₀ best₀ at block best =
+Inv-scan totals gaps errors groups firsts lasts values n bound parts last column table weighed k i low at₀ block₀ best₀ at block best =
     Scanning (spansIn groups firsts lasts values n) totals gaps n k errors i low at (totalsIn block) best
 
 abbrev μ-scan : tie.MeasureT-scan
-μ-scan totals gaps errors groups firsts lasts values n bound parts last column table weighed k more i low at₀ block₀ best₀ at block best =
+μ-scan totals gaps errors groups firsts lasts values n bound parts last column table weighed k i low at₀ block₀ best₀ at block best =
     at
 
 abbrev Inv-loop2 : tie.InvT-loop2
-Inv-loop2 totals gaps errors₀ groups firsts lasts values n bound parts last column table₀ weighed₀ k more i₀ errors table weighed i =
+Inv-loop2 totals gaps errors₀ groups firsts lasts values n bound parts last column table₀ weighed₀ k i₀ errors table weighed i =
     Cells (spansIn groups firsts lasts values n) totals gaps n k errors table weighed i
 
 abbrev μ-loop2 : tie.MeasureT-loop2
-μ-loop2 totals gaps errors₀ groups firsts lasts values n bound parts last column table₀ weighed₀ k more i₀ errors table weighed i =
+μ-loop2 totals gaps errors₀ groups firsts lasts values n bound parts last column table₀ weighed₀ k i₀ errors table weighed i =
     i
 
 abbrev Inv-loop : tie.InvT-loop
-Inv-loop totals gaps errors₀ groups firsts lasts values n bound parts last column₀ table₀ weighed₀ k₀ more₀ errors column table weighed k more =
+Inv-loop totals gaps errors₀ groups firsts lasts values n bound parts last column₀ table₀ weighed₀ k₀ errors column table weighed k =
     Filled (spansIn groups firsts lasts values n) totals gaps n bound parts last errors column table weighed k
-    × (more ≡ ltb k last && not (meetsIn bound column parts k))
 
 abbrev μ-loop : tie.MeasureT-loop
-μ-loop totals gaps errors₀ groups firsts lasts values n bound parts last column₀ table₀ weighed₀ k₀ more₀ errors column table weighed k more =
+μ-loop totals gaps errors₀ groups firsts lasts values n bound parts last column₀ table₀ weighed₀ k₀ errors column table weighed k =
     last - k
 
 abbrev segs : tie.Start Inv-scan μ-scan Inv-loop2 μ-loop2 Inv-loop μ-loop → List (Span ℕ)
 segs s = spansIn (s .args .groups .now) (s .args .firsts .now) (s .args .lasts .now) (s .args .values .now) (s .args .n)
 
--- the first row is filled
-first : (c : tie.After-column2 Inv-scan μ-scan Inv-loop2 μ-loop2 Inv-loop μ-loop)
-    → Filled (segs (c .before .before .before .before .before)) (c .before .before .before .before .before .args .totals .now) (c .before .before .before .before .before .args .gaps .now) (c .before .before .before .before .before .args .n) (c .before .before .before .before .before .args .bound) (c .before .before .before .before .before .args .parts) (c .before .before .before .before .last-row .result) (c .before .before .before .before .before .args .errors .now)
-    (set (c .before .before .before .no-column .result) 1 (getD (c .before .before .before .before .before .args .errors .now) (c .before .before .before .before .before .args .n) 0)) (c .before .no-cuts .result) 0 1
-first c =
-    let (ready, (row, ((some, known, enough), is-runs))) = c .before .before .before .before .before .pre in
-    filled-start ready some _ known is-runs enough (c .before .before .before .before .last-row .ensures) row (c .before .before .before .no-column .ensures) (c .before .no-cuts .ensures)
-
 -- the numbers of a row, of a cell and of a candidate are in range
-row-of : (c : tie.In-loop Inv-scan μ-scan Inv-loop2 μ-loop2 Inv-loop μ-loop)
-    → InTable (c .before .before .before .before .before .before .before .before .args .n) (c .before .before .before .before .before .before .before .last-row .result) (c .before .loop .k)
-row-of c = in-table (c .before .loop .inv .0) (c .before .loop .inv .1) (c .loop-test .taken)
+row-of : (c : tie.Then1 Inv-scan μ-scan Inv-loop2 μ-loop2 Inv-loop μ-loop)
+    → InTable (c .before .before .before .before .before .before .before .before .args .n) (c .before .before .before .before .before .before .before .last-row .result) (c .before .before .before .loop .k)
+row-of c = in-table (c .before .before .before .loop .inv) (c .before .goes-on .ensures) (c .if1 .taken)
 
 cell-of : (c : tie.In-loop2 Inv-scan μ-scan Inv-loop2 μ-loop2 Inv-loop μ-loop)
-    → InRow (c .before .before .before .loop .k + 1) (c .before .loop2 .i)
+    → InRow (c .before .before .before .before .before .loop .k + 1) (c .before .loop2 .i)
 cell-of c = in-row (c .before .loop2 .inv) (c .loop2-test .taken)
 
 candidate-of : (c : tie.At-scan Inv-scan μ-scan Inv-loop2 μ-loop2 Inv-loop μ-loop)
@@ -74,15 +62,15 @@ wider : (c : tie.After-add Inv-scan μ-scan Inv-loop2 μ-loop2 Inv-loop μ-loop)
 wider c = subst (Grown _ _ _) (sym (c .add .ensures)) (candidate (c .before .before .scan .inv) (c .before .totals-at .ensures))
 
 -- the cell, by either way out of the scan
-found : (c : tie.Joined1 Inv-scan μ-scan Inv-loop2 μ-loop2 Inv-loop μ-loop)
-    → Found (segs (c .before .before .before .before .before .before .before .before .before .before .before .before .before .before .before .before .before .before .before .before .before)) (c .before .before .before .before .before .before .before .before .before .before .before .before .before .before .loop .k + 1) (c .before .before .before .before .before .before .before .before .before .before .before .before .loop2 .i - 1) (c .if1 .found)
+found : (c : tie.Joined2 Inv-scan μ-scan Inv-loop2 μ-loop2 Inv-loop μ-loop)
+    → Found (segs (c .before .before .before .before .before .before .before .before .before .before .before .before .before .before .before .before .before .before .before .before .before)) (c .before .before .before .before .before .before .before .before .before .before .before .before .before .before .before .before .loop .k + 1) (c .before .before .before .before .before .before .before .before .before .before .before .before .loop2 .i - 1) (c .if2 .found)
 found c =
     let inv = c .before .before .before .before .before .before .before .scan .inv in
     let next = c .before .before .weigh .ensures in
     ⊎-elim
     (λ w. rw (w .1) (scan-early inv (wider (c .before .before .before .before .before)) (c .before .before .before .before .error .ensures) _ (next .0) (next .1) (w .0 .taken)))
     (λ w. rw (w .2) (scan-last inv (wider (c .before .before .before .before .before)) (c .before .before .before .before .error .ensures) _ (next .0) (next .1) (w .1 .taken)))
-    (c .if1 .came)
+    (c .if2 .came)
 
 last-row-requires : tie.Need-last-row-requires Inv-scan μ-scan Inv-loop2 μ-loop2 Inv-loop μ-loop
 last-row-requires c κs = search needs
@@ -102,11 +90,13 @@ array-write-column c = lit< tt
 no-cuts-requires : tie.Need-no-cuts-requires Inv-scan μ-scan Inv-loop2 μ-loop2 Inv-loop μ-loop
 no-cuts-requires c κs = search needs
 
-goes-on-requires : tie.Need-goes-on-requires Inv-scan μ-scan Inv-loop2 μ-loop2 Inv-loop μ-loop
-goes-on-requires c κs = compares (first c)
-
 loop-holds : tie.Need-loop-holds Inv-scan μ-scan Inv-loop2 μ-loop2 Inv-loop μ-loop
-loop-holds c = (first (c .before), c .goes-on .ensures)
+loop-holds c =
+    let (ready, (row, ((some, known, enough), is-runs))) = c .before .before .before .before .pre in
+    filled-start ready some _ known is-runs enough (c .before .before .before .last-row .ensures) row (c .before .before .no-column .ensures) (c .no-cuts .ensures)
+
+goes-on-requires : tie.Need-goes-on-requires Inv-scan μ-scan Inv-loop2 μ-loop2 Inv-loop μ-loop
+goes-on-requires c κs = compares (c .before .loop .inv)
 
 add-k : tie.Need-add-k Inv-scan μ-scan Inv-loop2 μ-loop2 Inv-loop μ-loop
 add-k c = row-of c .next
@@ -115,7 +105,7 @@ add-i : tie.Need-add-i Inv-scan μ-scan Inv-loop2 μ-loop2 Inv-loop μ-loop
 add-i c = row-of c .end
 
 loop2-holds : tie.Need-loop2-holds Inv-scan μ-scan Inv-loop2 μ-loop2 Inv-loop μ-loop
-loop2-holds c = cells-start (c .before .loop .inv .0) (c .before .loop .inv .1) (c .loop-test .taken)
+loop2-holds c = cells-start (c .before .before .before .loop .inv) (c .before .goes-on .ensures) (c .if1 .taken)
 
 sub-i : tie.Need-sub-i Inv-scan μ-scan Inv-loop2 μ-loop2 Inv-loop μ-loop
 sub-i c = cell-of c .cell
@@ -167,7 +157,7 @@ scan-less c = candidate-of (c .before .before .before .before .before .before .b
 scan-again : tie.Need-scan-again Inv-scan μ-scan Inv-loop2 μ-loop2 Inv-loop μ-loop
 scan-again c =
     let next = c .before .before .before .weigh .ensures in
-    scan-next (c .before .before .before .before .before .before .before .before .scan .inv) (wider (c .before .before .before .before .before .before)) (c .before .before .before .before .before .error .ensures) _ (next .0) (next .1) (c .before .if1 .left) (c .if2 .left)
+    scan-next (c .before .before .before .before .before .before .before .before .scan .inv) (wider (c .before .before .before .before .before .before)) (c .before .before .before .before .before .error .ensures) _ (next .0) (next .1) (c .before .if2 .left) (c .if3 .left)
 
 cast-table : tie.Need-cast-table Inv-scan μ-scan Inv-loop2 μ-loop2 Inv-loop μ-loop
 cast-table c = cut-fits (c .before .before .before .before .before .before .before .before .before .before .before .before .before .loop2 .inv) (c .before .before .before .before .before .before .before .before .before .before .before .before .loop2-test .taken) (found (c .before))
@@ -211,19 +201,16 @@ mul-column-3 c = row-of (c .before .before .before) .row-offset
 array-write-column-2 : tie.Need-array-write-column-2 Inv-scan μ-scan Inv-loop2 μ-loop2 Inv-loop μ-loop
 array-write-column-2 c = row-of (c .before .before .before) .row
 
-goes-on-requires-2 : tie.Need-goes-on-requires-2 Inv-scan μ-scan Inv-loop2 μ-loop2 Inv-loop μ-loop
-goes-on-requires-2 c κs = compares (filled-next (c .before .before .before .before .before .loop .inv .0) (c .before .before .before .before .before .loop .inv .1) (c .before .before .before .loop2 .inv) (c .before .before .loop2-test .left) (c .before .before .before .before .loop-test .taken))
-
 loop-less : tie.Need-loop-less Inv-scan μ-scan Inv-loop2 μ-loop2 Inv-loop μ-loop
-loop-less c = row-of (c .before .before .before .before .before) .falls
+loop-less c = row-of (c .before .before .before) .falls
 
 loop-again : tie.Need-loop-again Inv-scan μ-scan Inv-loop2 μ-loop2 Inv-loop μ-loop
-loop-again c = (filled-next (c .before .before .before .before .before .before .loop .inv .0) (c .before .before .before .before .before .before .loop .inv .1) (c .before .before .before .before .loop2 .inv) (c .before .before .before .loop2-test .left) (c .before .before .before .before .before .loop-test .taken), c .goes-on2 .ensures)
+loop-again c = filled-next (c .before .before .before .before .before .before .loop .inv) (c .before .before .before .before .goes-on .ensures) (c .before .before .loop2 .inv) (c .before .loop2-test .left) (c .before .before .before .if1 .taken)
 
 answer-in-requires : tie.Need-answer-in-requires Inv-scan μ-scan Inv-loop2 μ-loop2 Inv-loop μ-loop
 answer-in-requires c κs =
     let pre = c .before .before .before .before .before .before .before .before .before .before .pre in
-    (pre .0 .measured, (pre .1 .1 .0, (pre .1 .1 .1, fills (c .before .before .before .loop .inv .0) (c .before .before .before .loop .inv .1) (c .before .before .loop-test .left))))
+    (pre .0 .measured, (pre .1 .1 .0, (pre .1 .1 .1, fills (c .before .before .before .before .before .loop .inv) (c .before .before .before .goes-on .ensures) (c .before .before .if1 .left))))
 
 returns : tie.Need-returns Inv-scan μ-scan Inv-loop2 μ-loop2 Inv-loop μ-loop
 returns c = search needs
@@ -244,8 +231,8 @@ fill-spec =
     element-copy-out-column
     array-write-column
     no-cuts-requires
-    goes-on-requires
     loop-holds
+    goes-on-requires
     add-k
     add-i
     loop2-holds
@@ -279,7 +266,6 @@ fill-spec =
     element-copy-out-column-2
     mul-column-3
     array-write-column-2
-    goes-on-requires-2
     loop-less
     loop-again
     answer-in-requires
