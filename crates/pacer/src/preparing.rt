@@ -110,8 +110,8 @@ fn reduce(query: Query, log: &[u8]) -> Reduction
         &mut lasts,
         &mut values,
     );
-    let bound = query.bound;
-    split::reduce(&groups, &firsts, &lasts, &values, n, bound)
+    let wanted = query.bound;
+    split::reduce(&groups, &firsts, &lasts, &values, n, wanted)
 }
 
 // The bytes of a slot in which nothing stands.
