@@ -1,6 +1,34 @@
 // The data that crosses crates: log records, segments, rows, queries and the answers of the tool's calls.
 // What they mean stands in specs/, where `Demands` states what the tool owes its user.
 
+// The paper's limits.
+
+// The greatest kind of a query or a slot.
+pub const MOST_KIND: u8 = 3;
+
+// The greatest group.
+pub const MOST_GROUP: u8 = 7;
+
+// The greatest load of a record.
+pub const MOST_LOAD: u16 = 1000;
+
+// The bytes of a log record, and the most records of a log.
+pub const RECORD_LENGTH: usize = 9;
+pub const MOST_RECORDS: usize = 128;
+
+// The places that a lent list of segments needs.
+pub const MOST_SEGMENTS: usize = 255;
+
+// The most rows of a slot, and the greatest share, in thousandths.
+pub const MOST_ROWS: usize = 64;
+pub const MOST_SHARE: u16 = 1000;
+
+// The greatest value of a row.
+pub const MOST_VALUE: u32 = 128_000;
+
+// The bytes of a slot.
+pub const SLOT_LENGTH: usize = 768;
+
 // A log record: the load of a group over the frames first to last, both included, in thousandths of a frame's time.
 pub struct Record {
     pub group: u8,

@@ -1,6 +1,7 @@
 -- The laws of the definitions, and the demands.
 pub mod Tests
 pub mod Sums
+pub mod Numbers
 pub mod Refusals
 pub mod SlotLaws
 pub mod Frames
@@ -12,6 +13,7 @@ pub mod Table
 pub mod Choice
 pub mod Merging
 pub mod Converse
+pub mod Lists
 pub mod Exchange
 pub mod Labels
 pub mod Cutting

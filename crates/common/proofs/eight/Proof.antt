@@ -1,0 +1,46 @@
+-- `common::eight` meets its contract: the number in 8 bytes is made of two in half as many. Assumes nothing.
+use native.Mathlib.Omega.{arith}
+use denote.Ref.{now}
+use borrow.Author.Needs.{needs}
+use Rattle.theory.proofs.Numbers.{number-add}
+use Rattle.common.proofs.eight.Statement.{statement}
+use Rattle.common.proofs.eight.Tie as tie
+
+four-requires : tie.Need-four-requires
+four-requires c κs = search needs
+
+add-four : tie.Need-add-four
+add-four c = search needs
+
+four-requires-2 : tie.Need-four-requires-2
+four-requires-2 c κs = search needs
+
+cast-result : tie.Need-cast-result
+cast-result c = search needs
+
+cast-result-2 : tie.Need-cast-result-2
+cast-result-2 c = search needs
+
+mul-result : tie.Need-mul-result
+mul-result c = search needs
+
+add-result : tie.Need-add-result
+add-result c = search needs
+
+returns : tie.Need-returns
+returns c =
+    let a = c .before .before .before .args in
+    omega (arith, number-add 4 4 (now (a .bytes)) (a .at))
+
+pub eight-spec : {M : Type 1} → statement M
+eight-spec =
+    tie.close
+    (tie.spec
+    four-requires
+    add-four
+    four-requires-2
+    cast-result
+    cast-result-2
+    mul-result
+    add-result
+    returns)
