@@ -14,6 +14,7 @@ pub const MOST_LOAD: u16 = 1000;
 
 // The bytes of a log record, and the most records of a log.
 pub const RECORD_LENGTH: usize = 9;
+
 pub const MOST_RECORDS: usize = 128;
 
 // The places that a lent list of segments needs.
@@ -21,6 +22,7 @@ pub const MOST_SEGMENTS: usize = 255;
 
 // The most rows of a slot, and the greatest share, in thousandths.
 pub const MOST_ROWS: usize = 64;
+
 pub const MOST_SHARE: u16 = 1000;
 
 // The greatest value of a row.
