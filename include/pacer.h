@@ -8,7 +8,7 @@
  * the index from 0 of the record or row concerned for questions 6 to 9 and 14 to 16 (0 for the
  * others), and nothing that was lent is changed. The questions are:
  *
- *    1  Is the lent buffer or list long enough (slot 768, segments 255, record 9)?
+ *    1  Is the lent buffer or list long enough (slot 768, segments 255, rows 64, record 9)?
  *    2  Is the kind 0 to 3?
  *    3  Is the row limit at most 64, or the share at most 1,000?
  *    4  Is the log's length a multiple of 9?
@@ -39,6 +39,9 @@
 #include <stddef.h>
 #include <stdint.h>
 
+/* The version of the library that this header describes. */
+#define PACER_VERSION "0.8.0"
+
 #ifdef __cplusplus
 extern "C" {
 #endif
@@ -47,7 +50,18 @@ extern "C" {
 enum {
     PACER_RECORD_BYTES = 9,
     PACER_SLOT_BYTES = 768,
-    PACER_SEGMENT_PLACES = 255
+    PACER_SEGMENT_PLACES = 255,
+    PACER_ROW_PLACES = 64
+};
+
+/* Stack that a call needs at most, in bytes: measured on x86-64 by tests-c/stack.c, which fails if a
+ * call needs more, and rounded up.
+ */
+enum {
+    PACER_SMALL_QUERY_STACK = 32 * 1024,  /* a query of a log with at most 32 segments */
+    PACER_QUERY_STACK = 300 * 1024,       /* any query: 48 KB to 64 segments, 96 KB to 128 */
+    PACER_SEGMENTS_STACK = 10 * 1024,
+    PACER_SLOT_STACK = 3 * 1024           /* every other call */
 };
 
 /* What a frame's value is, over the records that contain it. */
@@ -117,6 +131,16 @@ struct pacer_segment {
     uint32_t value;
 };
 
+/* A row of a slot: some consecutive frames of a group, both included, and the value that stands
+ * for them.
+ */
+struct pacer_row {
+    uint8_t group;
+    uint16_t first;
+    uint16_t last;
+    uint32_t value;
+};
+
 /* Writes one log record.
  * Asks 1 (9 bytes), 7, 8, 9, in this order; the index is always 0.
  * Accepted: the first 9 bytes of the buffer are the record, the others keep their content.
@@ -152,6 +176,16 @@ struct pacer_segments_answer pacer_segments(const uint8_t *log, size_t log_lengt
  * Writes nothing. Refused: kind, rows and error are 0.
  */
 struct pacer_read_answer pacer_read(const uint8_t *slot, size_t length);
+
+/* Reads a slot's kind, error and count of rows, and all of its rows into a list.
+ * Asks 1 (768 bytes and 64 places), 11, 12, 13, then 14 to 16 for row after row, then 17.
+ * Accepted: the first `rows` places hold the rows, by group and then by first frame; the others
+ * keep their content.
+ * Refused: the list is unchanged; kind, rows and error are 0.
+ * `slot` and `list` must not overlap.
+ */
+struct pacer_read_answer pacer_read_rows(const uint8_t *slot, size_t length,
+                                         struct pacer_row *list, size_t places);
 
 /* Gives the row with a number, from 0. To walk over a slot, begin at 0 and go on with `next`
  * while `found` is 1.

@@ -1,4 +1,4 @@
-/* Log G through the C interface: write_record, segments, query, read, row_at and lookup.
+/* Log G through the C interface: write_record, segments, query, read, read_rows, row_at and lookup.
  *
  * Every answer is checked against the numbers that the paper prints for log G, and every byte
  * lent against the paper's layout. Prints one line, `c interface: ok`; with any difference it
@@ -63,7 +63,7 @@ static const uint16_t log_g[5][4] = {
 static const struct pacer_segment segments_g[6] = {
     {0, 0, 1, 100}, {0, 2, 3, 300}, {0, 4, 5, 200}, {0, 6, 6, 210}, {0, 9, 10, 50}, {1, 0, 0, 7},
 };
-static const struct pacer_segment rows_g[4] = {
+static const struct pacer_row rows_g[4] = {
     {0, 0, 1, 100}, {0, 2, 6, 242}, {0, 9, 10, 50}, {1, 0, 0, 7},
 };
 
@@ -227,6 +227,41 @@ static void test_read(uint8_t *slot, size_t length)
     }
 }
 
+static void test_read_rows(uint8_t *slot, size_t length)
+{
+    static struct pacer_row list[PACER_ROW_PLACES + 1];
+    const size_t places = sizeof list / sizeof list[0];
+
+    for (size_t i = 0; i < places; i++)
+        list[i] = (struct pacer_row){9, 10, 11, 12};
+
+    /* A short list, a short slot and a byte behind the last row: nothing is written. */
+    SAME(pacer_read_rows(slot, length, list, 63).question, 1);
+    SAME(pacer_read_rows(slot, 767, list, places).question, 1);
+    slot[767] = 1;
+    struct pacer_read_answer a = pacer_read_rows(slot, length, list, places);
+    slot[767] = 0;
+    SAME(a.question, 17);
+    SAME(a.rows, 0);
+    for (size_t i = 0; i < places; i++)
+        SAME(list[i].group, 9);
+
+    a = pacer_read_rows(slot, length, list, places);
+    SAME(a.question, 0);
+    SAME(a.index, 0);
+    SAME(a.kind, 0);
+    SAME(a.rows, 4);
+    SAME(a.error, 11280);
+    for (size_t i = 0; i < places; i++) {
+        const struct pacer_row expected = i < 4 ? rows_g[i] : (struct pacer_row){9, 10, 11, 12};
+        SAME(list[i].group, expected.group);
+        SAME(list[i].first, expected.first);
+        SAME(list[i].last, expected.last);
+        SAME(list[i].value, expected.value);
+    }
+    SAME(pacer_read_rows(slot, length, list, PACER_ROW_PLACES).question, 0);
+}
+
 static void test_row_at(const uint8_t *slot, size_t length)
 {
     size_t number = 0;
@@ -294,6 +329,7 @@ int main(void)
     test_segments(log);
     test_query(log, slot, sizeof slot);
     test_read(slot, sizeof slot);
+    test_read_rows(slot, sizeof slot);
     test_row_at(slot, sizeof slot);
     test_lookup(slot, sizeof slot);
     if (differences == 0)

@@ -1,11 +1,10 @@
 -- A row value and the products of which an error is made stay in their ranges, and a block's error follows from its totals.
 -- Assumes nothing.
-use Prim.Native.Nat.{ℕ, zero, suc, _+_, _-_, _*_, _/_, _≤_, _<_}
-use mathlib.Core.Bool.{cond}
+use Prim.Native.Nat.{ℕ, suc, _+_, _-_, _*_, _/_, _≤_, _<_}
 use mathlib.Core.List.{List}
 use mathlib.Core.Path.{_≡_}
 use native.Mathlib.Decide.{decLe}
-use native.Mathlib.Nat.{mul-le-mul-right, lt-of-not-le, le-antisymm, le-of-suc-le-suc, mul-pos, le-div-iff-mul-le, div-lt-iff-lt-mul}
+use native.Mathlib.Nat.{mul-le-mul-right, lt-of-not-le, le-antisymm, le-of-suc-le-suc, le-div-iff-mul-le, div-lt-iff-lt-mul}
 use native.Mathlib.Omega.{arith}
 use Rattle.model.specs.Spans.{Span}
 use Rattle.model.specs.Blocks.{Totals, totals, nearest, rowValue, blockError}

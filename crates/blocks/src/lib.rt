@@ -21,6 +21,13 @@ impl Totals {
         squares: 0,
     };
 
+    // The totals of a block with no segment, as a call: its promise says what the constant holds.
+    pub fn of_no_segment() -> Totals
+        ensures { λ r. ⌜ totalsIn r ≡ empty ⌝ }
+    {
+        Totals::EMPTY
+    }
+
     // The totals of one segment.
     pub fn make(frames: u64, value: u64) -> Totals
         requires { ⌜ (frames ≤ mostFrames) × (value ≤ mostValue) ⌝ }

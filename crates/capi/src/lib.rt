@@ -10,11 +10,14 @@ use answers::CRecordAnswer;
 use answers::CSegmentsAnswer;
 use answers::CStepAnswer;
 use model::Record;
+use model::Row;
 use model::Segment;
 ghost use mathlib.Core.Path.{_≡_};
 ghost use lib.ListN.{length};
-ghost use Rattle.model.specs.Calls.{writeOutcome, writtenBuffer, letterOutcome, letterSlot, segmentsOutcome, filledList};
-ghost use Rattle.model.specs.Calls.{readOutcome, stepOutcome, stepNext, lookupOutcome};
+ghost use Rattle.model.specs.Questions.{Outcome};
+ghost use Rattle.model.specs.Demands.{LetterPromise};
+ghost use Rattle.model.specs.Calls.{Counts, writeOutcome, writtenBuffer, letterOutcome, letterSlot, segmentsOutcome, filledList};
+ghost use Rattle.model.specs.Calls.{readOutcome, readListOutcome, readList, stepOutcome, stepNext, lookupOutcome};
 ghost use Rattle.capi.specs.Answers.{spanOf, recordFields, queryFields, segmentsFields, readFields, stepFields, lookupFields};
 
 // Writes a record to the front of a buffer.
@@ -50,6 +53,7 @@ pub extern "C" fn pacer_query(
 ) -> CQueryAnswer
     ensures says { λ r. ⌜ r ≡ queryFields (letterOutcome kind rule bound (now (log .entry)) (length (now (slot .entry)))) ⌝ }
     ensures holds { λ _. ⌜ now (slot .exit) ≡ letterSlot kind rule bound (now (log .entry)) (now (slot .entry)) ⌝ }
+    ensures promise { λ r. ⌜ ((says : Outcome Counts) × (r ≡ queryFields says) × LetterPromise kind rule bound (now (log .entry)) (now (slot .entry)) says (now (slot .exit))) ⌝ }
 {
     let answer = pacer::query_by_letter(kind, rule, bound, log, slot);
     answers::of_query(answer)
@@ -69,8 +73,16 @@ pub extern "C" fn pacer_segments(log: &[u8], kind: u8, list: &mut [Segment]) -> 
 pub extern "C" fn pacer_read(slot: &[u8]) -> CReadAnswer
     ensures { λ r. ⌜ r ≡ readFields (readOutcome (now (slot .entry))) ⌝ }
 {
-    let reading = pacer::read(slot);
-    let answer = reading.answer;
+    let answer = pacer::read_header(slot);
+    answers::of_read(answer)
+}
+
+// What the header of a slot says, and its rows in the first places of a list of 64 or more.
+#[no_mangle]
+pub extern "C" fn pacer_read_rows(slot: &[u8], list: &mut [Row]) -> CReadAnswer
+    ensures { λ r. ⌜ (r ≡ readFields (readListOutcome (now (slot .entry)) (length (now (list .entry))))) × (now (list .exit) ≡ readList (now (slot .entry)) (now (list .entry))) ⌝ }
+{
+    let answer = lent::rows::read_into(slot, list);
     answers::of_read(answer)
 }
 

@@ -23,7 +23,7 @@ fn print_all(cases: &[u8]) {
     let mut at: usize = 0;
     while cases.len() - at >= 2 {
         let start = at + 2;
-        let size = report::number(cases, at) as usize;
+        let size = common::two(cases, at) as usize;
         if cases.len() - start < size {
             return;
         }

@@ -1,13 +1,16 @@
-// What several crates need: numbers of several bytes, least byte first, a question's 'no', and the slot and the rows in which
-// nothing stands.
+// What several crates need: numbers of several bytes, least byte first, the place of a slot's row, a question's 'no', and the
+// slot and the rows in which nothing stands.
 use model::Asked;
+use model::MOST_ROWS;
 use model::Refusal;
 use model::Row;
+use model::SLOT_LENGTH;
 ghost use mathlib.Core.Path.{_≡_};
 ghost use mathlib.Core.List.{[]};
-ghost use Prim.Native.Nat.{_+_, _≤_};
+ghost use Prim.Native.Nat.{_+_, _%_, _≤_};
 ghost use lib.ListN.{length, replicate};
 ghost use Rattle.model.specs.Common.{numberAt};
+ghost use Rattle.model.specs.Slot.{rowPlace};
 ghost use Rattle.model.specs.Arrays.{rowArray};
 
 // A byte, as wide as a count or a place.
@@ -47,6 +50,21 @@ pub fn eight(bytes: &[u8], at: usize) -> u64
     (low as u64) + 0x1_0000_0000 * (high as u64)
 }
 
+// The least byte of a number.
+pub fn low(x: u64) -> u8
+    ensures { λ r. ⌜ r ≡ x % 256 ⌝ }
+{
+    (x % 256) as u8
+}
+
+// The place of a slot's row i.
+pub fn place(i: usize) -> usize
+    requires { ⌜ i ≤ 64 ⌝ }
+    ensures { λ r. ⌜ r ≡ rowPlace i ⌝ }
+{
+    12 + 11 * i
+}
+
 // A question's 'no'.
 pub fn no(question: u8, index: usize) -> Asked
     ensures { λ r. ⌜ r ≡ Asked.Refused (record { question = question; index = index }) ⌝ }
@@ -55,14 +73,14 @@ pub fn no(question: u8, index: usize) -> Asked
 }
 
 // The bytes of a slot in which nothing stands.
-pub fn no_slot() -> [u8; 768]
+pub fn no_slot() -> [u8; SLOT_LENGTH]
     ensures { λ r. ⌜ r ≡ replicate 768 0 ⌝ }
 {
-    [0u8; 768]
+    [0u8; SLOT_LENGTH]
 }
 
 // 64 rows of zeros.
-pub fn no_rows() -> [Row; 64]
+pub fn no_rows() -> [Row; MOST_ROWS]
     ensures { λ r. ⌜ r ≡ rowArray [] ⌝ }
 {
     let none = Row {
@@ -71,5 +89,5 @@ pub fn no_rows() -> [Row; 64]
         last: 0,
         value: 0,
     };
-    [none; 64]
+    [none; MOST_ROWS]
 }

@@ -3,11 +3,11 @@ use Prim.Native.Nat.{ℕ, zero, suc, _≤_, _<_}
 use mathlib.Core.List.{List, [], _∷_, _++_, map}
 use mathlib.Core.Path.{_≡_, refl, sym, ap, _∙_}
 use native.Mathlib.Omega.{arith}
-use lib.ListN.{length, getD, set, drop, length-append, length-drop}
-use lib.Seq.{drop-cons}
+use lib.ListN.{length, getD, set, take, drop, length-append, length-drop}
+use lib.Seq.{drop-cons, take-suc}
 use Rattle.model.specs.Common.{listFrom}
 use Rattle.theory.proofs.SlotLaws.{length-listFrom}
-use Rattle.log.proofs.Columns.{listFrom-snoc}
+use Rattle.theory.proofs.Lists.{listFrom-snoc}
 
 -- the list with h 0, h 1, .. in its first i places
 unfoldable pub copied : {A : Type 0} → (ℕ → A) → List A → ℕ → List A
@@ -47,3 +47,15 @@ copied-map field g list i = ap (λ l. l ++ drop i list) (each 0 i)
     each : (from count : ℕ) → listFrom from count (λ j. field (g j)) ≡ map field (listFrom from count g)
     each from zero = refl
     each from (suc count) = ap (λ l. field (g from) ∷ l) (each (suc from) count)
+
+-- or be another list's first elements
+pub copied-take : {A : Type 0} (from : List A) (d : A) (list : List A) (i : ℕ) → i ≤ length from
+    → copied (λ j. getD from j d) list i ≡ take i from ++ drop i list
+unfolding copied listFrom
+copied-take {A} from d list i le = ap (λ l. l ++ drop i list) (first i le)
+  where
+    first : (i : ℕ) → i ≤ length from → listFrom 0 i (λ j. getD from j d) ≡ take i from
+    first zero le = refl
+    first (suc i) le =
+        listFrom-snoc (λ j. getD from j d) i ∙ ap {B = List A} (λ l. l ++ (getD from i d ∷ [])) (first i (omega (arith, le)))
+        ∙ sym (take-suc from i d (omega (arith, le)))

@@ -1,7 +1,7 @@
 -- A walker's answers: of a slot that is read, the reader's rows in order and then the end for ever; of any other slot, the
 -- reader's refusal at every step. Assumes nothing.
 use Prim.Native.Nat.{ℕ, zero, suc, _≤_, _<_}
-use mathlib.Core.List.{List, [], _∷_}
+use mathlib.Core.List.{List}
 use mathlib.Core.Option.{none, some}
 use mathlib.Core.Path.{_≡_, refl, ap, _∙_}
 use native.Mathlib.Omega.{arith}
@@ -9,19 +9,12 @@ use borrow.Author.Tests.{ltb-true, ltb-false}
 use lib.Dec.{ltb}
 use lib.ListN.{length, getD}
 use Rattle.model.specs.Spans.{nowhere}
-use Rattle.model.specs.Questions.{Question, refused, accepted, outcome, slotQuestions}
+use Rattle.model.specs.Questions.{refused, accepted, slotQuestions}
 use Rattle.model.specs.Calls.{Header, readOutcome, readRows, stepOutcome, stepNext}
 use Rattle.theory.proofs.Tests.{cases}
-use Rattle.theory.proofs.Refusals.{accepted≢refused, refused-lent}
-use Rattle.slot.proofs.Walk.{walk-row, walk-end}
+use Rattle.theory.proofs.Refusals.{refused-same, refused-lent}
+use Rattle.reader.proofs.Walk.{walk-row, walk-end}
 use Rattle.lent.specs.Walk.{numberAfter}
-
--- a refusal is the same whatever would be given
-refused-same : {A B : Type 0} (qs : List Question) (a : A) (b : B) (n i : ℕ) → outcome qs a ≡ refused n i → outcome qs b ≡ refused n i
-unfolding outcome
-refused-same [] a b n i e = absurd (accepted≢refused e)
-refused-same (q ∷ qs) a b n i e =
-    cases (q .passed) (λ p. rw p (refused-same qs a b n i (rw p at e))) (λ p. rw p (cc))
 
 module _ (slot : List ℕ) (n i : ℕ) (e : readOutcome slot ≡ refused n i) where
   -- over a slot that is refused a walker does not move

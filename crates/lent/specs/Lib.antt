@@ -1,2 +1,3 @@
--- What the walker's answers are.
+-- What the walker's answers are, and what the reader's rows are copied from.
 pub mod Walk
+pub mod Rows

@@ -28,7 +28,7 @@ impl<'a> Walker<'a> {
     pub fn step(self) -> Stepped<'a>
         ensures { λ r. ⌜ (r .walker .slot ≡ self .entry .slot) × (r .walker .next ≡ stepNext (now (self .entry .slot)) (self .entry .next)) × (stepCase (r .step) ≡ stepOutcome (now (self .entry .slot)) (self .entry .next)) ⌝ }
     {
-        let walked = slot::row_at(self.slot, self.next);
+        let walked = reader::row_at(self.slot, self.next);
         Stepped {
             walker: Walker {
                 slot: self.slot,

@@ -1,34 +1,24 @@
 // The log: questions 4 to 9 over its bytes, its records decoded into arrays, and the record writer.
-
+use common::low;
+use common::no;
+use common::two;
 use model::Asked;
+use model::MOST_GROUP;
+use model::MOST_LOAD;
+use model::MOST_RECORDS;
+use model::RECORD_LENGTH;
 use model::Record;
 use model::RecordAnswer;
 use model::Records;
 use model::Refusal;
 ghost use mathlib.Core.Path.{_≡_};
-ghost use mathlib.Core.List.{[], _++_};
-ghost use Prim.Native.Nat.{_+_, _*_, _/_, _%_, _<_, _≤_};
-ghost use lib.ListN.{length, drop};
-ghost use Rattle.model.specs.Common.{numberAt};
-ghost use Rattle.model.specs.Log.{recordLength, recordBytes, recordAt, recordCount, records};
+ghost use mathlib.Core.List.{[]};
+ghost use Prim.Native.Nat.{_+_, _*_, _≤_};
+ghost use lib.ListN.{length};
+ghost use Rattle.model.specs.Log.{recordBytes, recordAt, recordCount, records};
 ghost use Rattle.model.specs.Questions.{outcome, each, spanQuestions, recordQuestions, logQuestions, mostRecords};
 ghost use Rattle.model.specs.Calls.{recordSpan, askedCase, recordCase, writeOutcome, writtenBuffer};
 ghost use Rattle.model.specs.Arrays.{recordArrays};
-
-// A byte as a wider number.
-fn wide(x: u8) -> u16
-    ensures { λ r. ⌜ r ≡ x ⌝ }
-{
-    x as u16
-}
-
-// The number in the two bytes from a place on.
-fn number(bytes: &[u8], at: usize) -> u16
-    requires { ⌜ at + 1 < length (now bytes) ⌝ }
-    ensures { λ r. ⌜ r ≡ numberAt 2 (now (bytes .entry)) at ⌝ }
-{
-    wide(bytes[at]) + 256 * wide(bytes[at + 1])
-}
 
 // The record whose bytes begin at a place.
 fn record_at(log: &[u8], at: usize) -> Record
@@ -37,30 +27,23 @@ fn record_at(log: &[u8], at: usize) -> Record
 {
     Record {
         group: log[at + 2],
-        first: number(log, at + 3),
-        last: number(log, at + 5),
-        load: number(log, at + 7),
+        first: two(log, at + 3),
+        last: two(log, at + 5),
+        load: two(log, at + 7),
     }
-}
-
-// A question's 'no'.
-fn no(question: u8, index: usize) -> Asked
-    ensures { λ r. ⌜ r ≡ Asked.Refused (record { question = question; index = index }) ⌝ }
-{
-    Asked::Refused(Refusal { question, index })
 }
 
 // Questions 7 to 9, of a record.
 fn ask_span(record: Record, index: usize) -> Asked
     ensures { λ r. ⌜ askedCase r ≡ outcome (spanQuestions (recordSpan «record») index) tt ⌝ }
 {
-    if record.group > 7 {
+    if record.group > MOST_GROUP {
         return no(7, index);
     }
     if record.first > record.last {
         return no(8, index);
     }
-    if record.load > 1000 {
+    if record.load > MOST_LOAD {
         return no(9, index);
     }
     Asked::Passed
@@ -71,7 +54,7 @@ fn ask_record(log: &[u8], index: usize) -> Asked
     requires { ⌜ 9 * index + 9 ≤ length (now log) ⌝ }
     ensures { λ r. ⌜ askedCase r ≡ outcome (recordQuestions (now (log .entry)) index) tt ⌝ }
 {
-    let at = 9 * index;
+    let at = RECORD_LENGTH * index;
     if log[at] != 0x4C {
         return no(6, index);
     }
@@ -99,11 +82,11 @@ fn ask_records(log: &[u8], count: usize) -> Asked
 pub fn ask(log: &[u8]) -> Asked
     ensures { λ r. ⌜ askedCase r ≡ outcome (logQuestions (now (log .entry))) tt ⌝ }
 {
-    let count = log.len() / 9;
-    if log.len() % 9 != 0 {
+    let count = log.len() / RECORD_LENGTH;
+    if log.len() % RECORD_LENGTH != 0 {
         return no(4, 0);
     }
-    if count > 128 {
+    if count > MOST_RECORDS {
         return no(5, 0);
     }
     ask_records(log, count)
@@ -114,10 +97,10 @@ fn empty() -> Records
     ensures { λ r. ⌜ r ≡ recordArrays [] ⌝ }
 {
     Records {
-        groups: [0u8; 128],
-        firsts: [0u16; 128],
-        lasts: [0u16; 128],
-        loads: [0u16; 128],
+        groups: [0u8; MOST_RECORDS],
+        firsts: [0u16; MOST_RECORDS],
+        lasts: [0u16; MOST_RECORDS],
+        loads: [0u16; MOST_RECORDS],
         count: 0,
     }
 }
@@ -127,10 +110,10 @@ pub fn decode(log: &[u8]) -> Records
     requires { ⌜ recordCount (now log) ≤ mostRecords ⌝ }
     ensures { λ r. ⌜ r ≡ recordArrays (records (now (log .entry))) ⌝ }
 {
-    let count = log.len() / 9;
+    let count = log.len() / RECORD_LENGTH;
     let mut records = empty();
     for index in 0..count {
-        let record = record_at(log, 9 * index);
+        let record = record_at(log, RECORD_LENGTH * index);
         records.groups[index] = record.group;
         records.firsts[index] = record.first;
         records.lasts[index] = record.last;
@@ -140,34 +123,24 @@ pub fn decode(log: &[u8]) -> Records
     records
 }
 
-// The lower byte of a number.
-fn low(x: u16) -> u8
-    ensures { λ r. ⌜ r ≡ x % 256 ⌝ }
+// A record: mark, group, first and last frame and load.
+fn record_bytes(record: Record) -> [u8; RECORD_LENGTH]
+    ensures { λ r. ⌜ r ≡ recordBytes (recordSpan «record») ⌝ }
 {
-    (x % 256) as u8
-}
-
-// The upper byte of a number.
-fn high(x: u16) -> u8
-    ensures { λ r. ⌜ r ≡ x / 256 % 256 ⌝ }
-{
-    (x / 256) as u8
-}
-
-// A record's bytes, over the first of a buffer.
-fn fill(record: Record, buffer: &mut [u8])
-    requires { ⌜ recordLength ≤ length (now buffer) ⌝ }
-    ensures { λ _. ⌜ now (buffer .exit) ≡ recordBytes (recordSpan «record») ++ drop recordLength (now (buffer .entry)) ⌝ }
-{
-    buffer[0] = 0x4C;
-    buffer[1] = 0x44;
-    buffer[2] = record.group;
-    buffer[3] = low(record.first);
-    buffer[4] = high(record.first);
-    buffer[5] = low(record.last);
-    buffer[6] = high(record.last);
-    buffer[7] = low(record.load);
-    buffer[8] = high(record.load);
+    let first = record.first as u64;
+    let last = record.last as u64;
+    let load = record.load as u64;
+    [
+        0x4C,
+        0x44,
+        record.group,
+        low(first),
+        low(first / 0x100),
+        low(last),
+        low(last / 0x100),
+        low(load),
+        low(load / 0x100),
+    ]
 }
 
 // Writes a record to the front of a buffer, or tells which question refused it and writes nothing.
@@ -175,7 +148,7 @@ pub fn write_record(record: Record, buffer: &mut [u8]) -> RecordAnswer
     ensures says { λ r. ⌜ recordCase r ≡ writeOutcome (recordSpan «record») (length (now (buffer .entry))) ⌝ }
     ensures holds { λ _. ⌜ now (buffer .exit) ≡ writtenBuffer (recordSpan «record») (now (buffer .entry)) ⌝ }
 {
-    if buffer.len() < 9 {
+    if buffer.len() < RECORD_LENGTH {
         return RecordAnswer::Refused(Refusal {
             question: 1,
             index: 0,
@@ -183,7 +156,8 @@ pub fn write_record(record: Record, buffer: &mut [u8]) -> RecordAnswer
     }
     match ask_span(record, 0) {
         Asked::Passed => {
-            fill(record, buffer);
+            let written = record_bytes(record);
+            bytes::copy(&written, buffer);
             RecordAnswer::Written
         }
         Asked::Refused(refusal) => RecordAnswer::Refused(refusal),

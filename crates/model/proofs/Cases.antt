@@ -1,45 +1,53 @@
--- The worked cases of the paper's last section, shown of the definitions: every row of a table gives a log of kind 0, the
--- bounds that it is queried with, its segments and its answer ('none' where the query is refused with number 10).
--- Assumes nothing.
-use Prim.Native.Nat.{ℕ, zero, suc}
+-- The worked cases of the paper's last section, shown of the definitions: every row of a table gives a kind, a log, the
+-- bounds that it is queried with, its segments and its answer ('none' where the query is refused with number 10). Further
+-- tables give what the worked cases leave out, slots and records by their bytes among it. Assumes nothing.
+use Prim.Native.Nat.{ℕ, _-_}
 use mathlib.Core.Bool.{true}
 use mathlib.Core.List.{List, [], _∷_, _++_}
 use mathlib.Core.Option.{Option, none, some, Option·getD}
 use mathlib.Core.Path.{_≡_, refl, _∙_}
 use lib.Dec.{leb, eqb}
+use lib.ListN.{length, drop, replicate}
 use Rattle.model.specs.Common.{sumFrom, sumOf, listFrom, isSome, numberAt, bytesOf}
 use Rattle.model.specs.Spans.{Span, groupCount, frameCount, spanLength, meets, adjacent, nowhere}
 use Rattle.model.specs.Log.{recordLength, recordBytes, recordAt, recordCount, records, meeting, sum, aggregate, aggregated, value}
 use Rattle.model.specs.Segments.{join, fuse, place, framesFrom, groupsFrom, segmentsOf, segments}
 use Rattle.model.specs.Blocks.{segmentAt, gap, lastGap, runsTo, block, empty, totalsOf, add, totals, nearest, rowValue, squared, errorWith, blockError, rowOf}
 use Rattle.model.specs.Split.{untried, plus, below, exceeds, weigh, scan, single, cell, least, weighed, cutsOf, rowsOf, fewest, within, firstThat, mostRows, chosen, rowsTried, Reduced, errorOf, gapBelow, runs, leastOf, countFor, reducedTo, reduced}
-use Rattle.model.specs.Slot.{slotLength}
+use Rattle.model.specs.Slot.{slotLength, rowBytes, rowsBytes, usedBytes, slotBytes, rowPlace, slotKind, slotCount, slotError, slotRow, slotRows}
 use Rattle.model.specs.Questions.{ask, Outcome, refused, accepted, outcome, each, marked, askRoom, kindKnown, boundKnown, groupKnown, spanQuestions, recordQuestions, mostRecords, logQuestions, orderQuestions, enoughRows, queryQuestions}
-use Rattle.model.specs.Calls.{Counts, countsOf, logSegments, answerOf, queryOutcome}
+use Rattle.model.specs.Questions.{lent, writeQuestions, follows, inOrder, rowKnown, rowQuestions, zeros, tailZero, slotQuestions}
+use Rattle.model.specs.Calls.{Counts, countsOf, logSegments, answerOf, queryOutcome, querySlot, Header, readOutcome, readRows, writeOutcome, writtenBuffer}
 use Rattle.model.specs.declared.Bound.{Bound}
 use Rattle.model.specs.declared.Bound.the-variants.{Rows, Share}
 use Rattle.model.specs.declared.Query.{Query}
 use Rattle.model.proofs.Page.{horizon, short-page}
 
 record Case : Type 0 where
+  kind : ℕ
   log : List (Span ℕ)
   bounds : List Bound
   segments : List (Span ℕ)
   answer : Option Reduced
 
+abbrev caseOf : ℕ → List (Span ℕ) → List Bound → List (Span ℕ) → Option Reduced → Case
+caseOf kind log bounds segments answer =
+    record { kind = kind; log = log; bounds = bounds; segments = segments; answer = answer }
+
+-- of kind 0
 abbrev case : List (Span ℕ) → List Bound → List (Span ℕ) → Option Reduced → Case
-case log bounds segments answer = record { log = log; bounds = bounds; segments = segments; answer = answer }
+case log bounds segments answer = caseOf 0 log bounds segments answer
 
 abbrev reduces : ℕ → ℕ → List (Span ℕ) → Option Reduced
 reduces error weighed rows = some (record { rows = rows; error = error; weighed = weighed })
 
-abbrev span : ℕ → ℕ → ℕ → ℕ → Span ℕ
+abbrev pub span : ℕ → ℕ → ℕ → ℕ → Span ℕ
 span group first last value = record { group = group; first = first; last = last; value = value }
 
-abbrev log-G : List (Span ℕ)
+abbrev pub log-G : List (Span ℕ)
 log-G = span 0 0 3 100 ∷ span 0 2 5 200 ∷ span 0 6 6 210 ∷ span 0 9 10 50 ∷ span 1 0 0 7 ∷ []
 
-abbrev segments-G : List (Span ℕ)
+abbrev pub segments-G : List (Span ℕ)
 segments-G = span 0 0 1 100 ∷ span 0 2 3 300 ∷ span 0 4 5 200 ∷ span 0 6 6 210 ∷ span 0 9 10 50 ∷ span 1 0 0 7 ∷ []
 
 -- the starred cases
@@ -94,6 +102,10 @@ starred-cases =
     (reduces 0 0 ([]))
     ∷ []
 
+-- two records that overlap in frames 2 and 3
+abbrev two-records : List (Span ℕ)
+two-records = span 0 0 3 100 ∷ span 0 2 5 200 ∷ []
+
 -- cases that tell wrong definitions apart which the starred ones let pass
 abbrev further-cases : List Case
 further-cases =
@@ -112,31 +124,49 @@ further-cases =
     -- greedy merging would end with the error 2
     case (span 0 0 0 0 ∷ span 0 1 1 1 ∷ span 0 2 2 2 ∷ span 0 3 3 1 ∷ []) (Rows 2 ∷ []) (span 0 0 0 0 ∷ span 0 1 1 1 ∷ span 0 2 2 2 ∷ span 0 3 3 1 ∷ [])
     (reduces 1 6 (span 0 0 0 0 ∷ span 0 1 3 1 ∷ []))
+    ∷
+    -- kind 1: the count of records
+    caseOf 1 two-records (Rows 64 ∷ []) (span 0 0 1 1 ∷ span 0 2 3 2 ∷ span 0 4 5 1 ∷ [])
+    (reduces 0 4 (span 0 0 1 1 ∷ span 0 2 3 2 ∷ span 0 4 5 1 ∷ []))
+    ∷
+    -- kind 2: the least load, where it stays the same one segment
+    caseOf 2 two-records (Rows 64 ∷ []) (span 0 0 3 100 ∷ span 0 4 5 200 ∷ [])
+    (reduces 0 1 (span 0 0 3 100 ∷ span 0 4 5 200 ∷ []))
+    ∷
+    -- kind 3: the greatest load
+    caseOf 3 two-records (Rows 64 ∷ []) (span 0 0 1 100 ∷ span 0 2 5 200 ∷ [])
+    (reduces 0 1 (span 0 0 1 100 ∷ span 0 2 5 200 ∷ []))
+    ∷
+    -- a share on the empty log
+    case [] (Share 0 ∷ Share 1000 ∷ []) []
+    (reduces 0 0 ([]))
     ∷ []
 
 -- ---- what a row of the table says
 
-abbrev bytes : List (Span ℕ) → List ℕ
+abbrev pub bytes : List (Span ℕ) → List ℕ
 bytes [] = []
 bytes (r ∷ rs) = recordBytes r ++ bytes rs
 
-abbrev query : Bound → Query
-query bound = record { kind = 0; bound = bound }
+abbrev pub query : ℕ → Bound → Query
+query kind bound = record { kind = kind; bound = bound }
 
 abbrev says : Option Reduced → Outcome Counts
 says none = refused 10 0
 says (some a) = accepted (countsOf a)
 
 -- the query of each bound has this outcome and this answer
-abbrev Answers : List ℕ → Option Reduced → List Bound → Type 0
-Answers log answer [] = Unit {0}
-Answers log answer (b ∷ bs) =
-    (queryOutcome (query b) log 768 ≡ says answer) × (reduced b (logSegments 0 log) ≡ answer) × Answers log answer bs
+abbrev Answers : ℕ → List ℕ → Option Reduced → List Bound → Type 0
+Answers kind log answer [] = Unit {0}
+Answers kind log answer (b ∷ bs) =
+    (queryOutcome (query kind b) log 768 ≡ says answer) × (reduced b (logSegments kind log) ≡ answer)
+    × Answers kind log answer bs
 
 abbrev Holds : Case → Type 0
-Holds c = (logSegments 0 (bytes (c .log)) ≡ c .segments) × Answers (bytes (c .log)) (c .answer) (c .bounds)
+Holds c =
+    (logSegments (c .kind) (bytes (c .log)) ≡ c .segments) × Answers (c .kind) (bytes (c .log)) (c .answer) (c .bounds)
 
-abbrev All : (Case → Type 0) → List Case → Type 0
+abbrev All : {A : Type 0} → (A → Type 0) → List A → Type 0
 All P [] = Unit {0}
 All P (c ∷ cs) = P c × All P cs
 
@@ -147,29 +177,29 @@ outcomeOn q log segs =
     outcome (askRoom slotLength 768 ∷ (orderQuestions q log ++ (ask 10 0 (isSome (countFor (q .bound) segs)) ∷ [])))
     (countsOf (Option·getD (reduced (q .bound) segs) (record { rows = []; error = 0; weighed = 0 })))
 
-abbrev ShortAnswers : List ℕ → List (Span ℕ) → Option Reduced → List Bound → Type 0
-ShortAnswers log segs answer [] = Unit {0}
-ShortAnswers log segs answer (b ∷ bs) =
-    (outcomeOn (query b) log segs ≡ says answer) × (reduced b segs ≡ answer) × ShortAnswers log segs answer bs
+abbrev ShortAnswers : ℕ → List ℕ → List (Span ℕ) → Option Reduced → List Bound → Type 0
+ShortAnswers kind log segs answer [] = Unit {0}
+ShortAnswers kind log segs answer (b ∷ bs) =
+    (outcomeOn (query kind b) log segs ≡ says answer) × (reduced b segs ≡ answer) × ShortAnswers kind log segs answer bs
 
 abbrev Short : Case → Type 0
 Short c =
     (leb (horizon (records (bytes (c .log)))) frameCount ≡ true)
-    × (segmentsOf eqb (value 0 (records (bytes (c .log)))) groupCount (horizon (records (bytes (c .log)))) ≡ c .segments)
-    × ShortAnswers (bytes (c .log)) (c .segments) (c .answer) (c .bounds)
+    × (segmentsOf eqb (value (c .kind) (records (bytes (c .log)))) groupCount (horizon (records (bytes (c .log)))) ≡ c .segments)
+    × ShortAnswers (c .kind) (bytes (c .log)) (c .segments) (c .answer) (c .bounds)
 
-long-answers : (log : List ℕ) (segs : List (Span ℕ)) (answer : Option Reduced) (bounds : List Bound)
-    → segments 0 (records log) ≡ segs → ShortAnswers log segs answer bounds → Answers log answer bounds
+long-answers : (kind : ℕ) (log : List ℕ) (segs : List (Span ℕ)) (answer : Option Reduced) (bounds : List Bound)
+    → segments kind (records log) ≡ segs → ShortAnswers kind log segs answer bounds → Answers kind log answer bounds
 unfolding queryOutcome queryQuestions enoughRows answerOf logSegments outcomeOn
-long-answers log segs answer [] e h = tt
-long-answers log segs answer (b ∷ bs) e (says-so, is, rest) =
-    (rw e says-so, rw e is, long-answers log segs answer bs e rest)
+long-answers kind log segs answer [] e h = tt
+long-answers kind log segs answer (b ∷ bs) e (says-so, is, rest) =
+    (rw e says-so, rw e is, long-answers kind log segs answer bs e rest)
 
 long : (c : Case) → Short c → Holds c
 unfolding logSegments
 long c (fits, found, answers) =
-    let e = short-page 0 (records (bytes (c .log))) fits ∙ found in
-    (e, long-answers (bytes (c .log)) (c .segments) (c .answer) (c .bounds) e answers)
+    let e = short-page (c .kind) (records (bytes (c .log))) fits ∙ found in
+    (e, long-answers (c .kind) (bytes (c .log)) (c .segments) (c .answer) (c .bounds) e answers)
 
 all-long : (cs : List Case) → All Short cs → All Holds cs
 all-long [] h = tt
@@ -179,7 +209,7 @@ shown : (All Short starred-cases) × (All Short further-cases)
 unfolding horizon sumFrom sumOf listFrom isSome numberAt bytesOf groupCount frameCount spanLength meets adjacent nowhere recordLength recordBytes recordAt recordCount records meeting sum aggregate aggregated value join fuse place framesFrom groupsFrom segmentsOf segmentAt gap lastGap runsTo block empty totalsOf add totals nearest rowValue squared errorWith blockError rowOf untried plus below exceeds weigh scan single cell least weighed cutsOf rowsOf fewest within firstThat mostRows chosen rowsTried errorOf gapBelow runs leastOf countFor reducedTo reduced slotLength ask outcome each marked askRoom kindKnown boundKnown groupKnown spanQuestions recordQuestions mostRecords logQuestions orderQuestions countsOf outcomeOn
 shown = (
   ((refl, refl, (refl, refl, tt)), ((refl, refl, (refl, refl, tt)), ((refl, refl, (refl, refl, tt)), ((refl, refl, (refl, refl, tt)), ((refl, refl, (refl, refl, tt)), ((refl, refl, (refl, refl, (refl, refl, tt))), ((refl, refl, (refl, refl, tt)), ((refl, refl, (refl, refl, tt)), ((refl, refl, (refl, refl, tt)), ((refl, refl, (refl, refl, tt)), ((refl, refl, (refl, refl, tt)), ((refl, refl, (refl, refl, tt)), tt)))))))))))),
-  ((refl, refl, (refl, refl, tt)), ((refl, refl, (refl, refl, tt)), ((refl, refl, (refl, refl, tt)), ((refl, refl, (refl, refl, tt)), tt)))),
+  ((refl, refl, (refl, refl, tt)), ((refl, refl, (refl, refl, tt)), ((refl, refl, (refl, refl, tt)), ((refl, refl, (refl, refl, tt)), ((refl, refl, (refl, refl, tt)), ((refl, refl, (refl, refl, tt)), ((refl, refl, (refl, refl, tt)), ((refl, refl, (refl, refl, (refl, refl, tt))), tt)))))))),
 )
 
 -- Every row of the two tables holds.
@@ -193,3 +223,125 @@ pub last-frame : (value 0 (span 0 65535 65535 5 ∷ []) 0 65535 ≡ some 5)
     × (reduced (Rows 1) (span 0 65534 65534 0 ∷ span 0 65535 65535 10 ∷ []) ≡ reduces 50 0 (span 0 65534 65535 5 ∷ []))
 unfolding horizon sumFrom sumOf listFrom isSome numberAt bytesOf groupCount frameCount spanLength meets adjacent nowhere recordLength recordBytes recordAt recordCount records meeting sum aggregate aggregated value join fuse place framesFrom groupsFrom segmentsOf segmentAt gap lastGap runsTo block empty totalsOf add totals nearest rowValue squared errorWith blockError rowOf untried plus below exceeds weigh scan single cell least weighed cutsOf rowsOf fewest within firstThat mostRows chosen rowsTried errorOf gapBelow runs leastOf countFor reducedTo reduced slotLength ask outcome each marked askRoom kindKnown boundKnown groupKnown spanQuestions recordQuestions mostRecords logQuestions orderQuestions countsOf outcomeOn
 last-frame = (refl, refl, refl)
+
+-- ---- slots by their bytes
+
+-- rows laid out under a kind and an error, their bytes up to the zeros, what the reader says of the slot, and the rows read
+record SlotCase : Type 0 where
+  kind : ℕ
+  error : ℕ
+  rows : List (Span ℕ)
+  bytes : List ℕ
+  answer : Outcome Header
+  read : List (Span ℕ)
+
+abbrev slotCase : ℕ → ℕ → List (Span ℕ) → List ℕ → Outcome Header → List (Span ℕ) → SlotCase
+slotCase kind error rows bytes answer read =
+    record { kind = kind; error = error; rows = rows; bytes = bytes; answer = answer; read = read }
+
+abbrev header : ℕ → ℕ → ℕ → Outcome Header
+header kind error rows = accepted (record { kind = kind; error = error; rows = rows })
+
+-- the four rows of G with c = 4
+abbrev pub rows-G : List (Span ℕ)
+rows-G = span 0 0 1 100 ∷ span 0 2 6 242 ∷ span 0 9 10 50 ∷ span 1 0 0 7 ∷ []
+
+-- and their bytes
+abbrev bytes-G : List ℕ
+bytes-G =
+    0x50 ∷ 0x48 ∷ 0 ∷ 4 ∷ 0x10 ∷ 0x2C ∷ 0 ∷ 0 ∷ 0 ∷ 0 ∷ 0 ∷ 0
+    ∷ 0x50 ∷ 0x52 ∷ 0 ∷ 0 ∷ 0 ∷ 1 ∷ 0 ∷ 0x64 ∷ 0 ∷ 0 ∷ 0
+    ∷ 0x50 ∷ 0x52 ∷ 0 ∷ 2 ∷ 0 ∷ 6 ∷ 0 ∷ 0xF2 ∷ 0 ∷ 0 ∷ 0
+    ∷ 0x50 ∷ 0x52 ∷ 0 ∷ 9 ∷ 0 ∷ 0x0A ∷ 0 ∷ 0x32 ∷ 0 ∷ 0 ∷ 0
+    ∷ 0x50 ∷ 0x52 ∷ 1 ∷ 0 ∷ 0 ∷ 0 ∷ 0 ∷ 7 ∷ 0 ∷ 0 ∷ 0 ∷ []
+
+abbrev slot-cases : List SlotCase
+slot-cases =
+    -- G, c = 4
+    slotCase 0 11280 rows-G bytes-G (header 0 11280 4) rows-G
+    ∷
+    -- every number of several bytes with its bytes in order
+    slotCase 3 0x0807060504030201 (span 7 0x0201 0x0403 0x01F400 ∷ [])
+    (0x50 ∷ 0x48 ∷ 3 ∷ 1 ∷ 1 ∷ 2 ∷ 3 ∷ 4 ∷ 5 ∷ 6 ∷ 7 ∷ 8
+    ∷ 0x50 ∷ 0x52 ∷ 7 ∷ 1 ∷ 2 ∷ 3 ∷ 4 ∷ 0 ∷ 0xF4 ∷ 1 ∷ 0 ∷ [])
+    (header 3 0x0807060504030201 1) (span 7 0x0201 0x0403 0x01F400 ∷ [])
+    ∷
+    -- two rows that share a frame: question 16, of the second
+    slotCase 0 0 (span 0 0 3 1 ∷ span 0 3 5 2 ∷ [])
+    (0x50 ∷ 0x48 ∷ 0 ∷ 2 ∷ 0 ∷ 0 ∷ 0 ∷ 0 ∷ 0 ∷ 0 ∷ 0 ∷ 0
+    ∷ 0x50 ∷ 0x52 ∷ 0 ∷ 0 ∷ 0 ∷ 3 ∷ 0 ∷ 1 ∷ 0 ∷ 0 ∷ 0
+    ∷ 0x50 ∷ 0x52 ∷ 0 ∷ 3 ∷ 0 ∷ 5 ∷ 0 ∷ 2 ∷ 0 ∷ 0 ∷ 0 ∷ [])
+    (refused 16 1) []
+    ∷ []
+
+abbrev wholeSlot : List ℕ → List ℕ
+wholeSlot used = used ++ replicate (768 - length used) 0
+
+abbrev SlotHolds : SlotCase → Type 0
+SlotHolds c =
+    (slotBytes (c .kind) (c .error) (c .rows) ≡ wholeSlot (c .bytes))
+    × (readOutcome (wholeSlot (c .bytes)) ≡ c .answer) × (readRows (wholeSlot (c .bytes)) ≡ c .read)
+
+-- ---- records by their bytes
+
+-- a record, a lent buffer, what the writer says, and what the buffer holds then
+record RecordCase : Type 0 where
+  given : Span ℕ
+  buffer : List ℕ
+  answer : Outcome (Unit {0})
+  after : List ℕ
+
+abbrev writeCase : Span ℕ → List ℕ → Outcome (Unit {0}) → List ℕ → RecordCase
+writeCase r buffer answer after = record { given = r; buffer = buffer; answer = answer; after = after }
+
+abbrev record-cases : List RecordCase
+record-cases =
+    -- the first record of G, in a buffer of eleven bytes: the last two are kept
+    writeCase (span 0 0 3 100) (replicate 11 9) (accepted tt)
+    (0x4C ∷ 0x44 ∷ 0 ∷ 0 ∷ 0 ∷ 3 ∷ 0 ∷ 0x64 ∷ 0 ∷ 9 ∷ 9 ∷ [])
+    ∷
+    -- numbers of two bytes
+    writeCase (span 7 0x0201 65535 1000) (replicate 9 0) (accepted tt)
+    (0x4C ∷ 0x44 ∷ 7 ∷ 1 ∷ 2 ∷ 0xFF ∷ 0xFF ∷ 0xE8 ∷ 3 ∷ [])
+    ∷
+    -- refused, and nothing is written: a short buffer, a group, first and last frame, a load
+    writeCase (span 8 0 3 100) (replicate 8 9) (refused 1 0) (replicate 8 9)
+    ∷ writeCase (span 8 4 3 100) (replicate 9 9) (refused 7 0) (replicate 9 9)
+    ∷ writeCase (span 0 4 3 1001) (replicate 9 9) (refused 8 0) (replicate 9 9)
+    ∷ writeCase (span 0 0 3 1001) (replicate 9 9) (refused 9 0) (replicate 9 9)
+    ∷ []
+
+abbrev RecordHolds : RecordCase → Type 0
+RecordHolds c =
+    (writeOutcome (c .given) (length (c .buffer)) ≡ c .answer) × (writtenBuffer (c .given) (c .buffer) ≡ c .after)
+
+-- Every row of these two tables holds.
+pub byte-cases : All SlotHolds slot-cases × All RecordHolds record-cases
+unfolding listFrom numberAt bytesOf slotLength rowBytes rowsBytes usedBytes slotBytes rowPlace slotKind slotCount slotError slotRow slotRows ask outcome lent each marked askRoom kindKnown groupKnown spanQuestions mostRows follows inOrder rowKnown rowQuestions zeros tailZero slotQuestions readOutcome readRows recordLength recordBytes writeQuestions writeOutcome writtenBuffer
+byte-cases = (
+  ((refl, refl, refl), ((refl, refl, refl), ((refl, refl, refl), tt))),
+  ((refl, refl), ((refl, refl), ((refl, refl), ((refl, refl), ((refl, refl), ((refl, refl), tt)))))),
+)
+
+-- ---- the slot of a query, by the segments of its log
+
+slotOn : Query → List ℕ → List (Span ℕ) → List ℕ → List ℕ
+slotOn q log segs slot =
+    let answer = Option·getD (reduced (q .bound) segs) (record { rows = []; error = 0; weighed = 0 }) in
+    lent
+    (askRoom slotLength (length slot) ∷ (orderQuestions q log ++ (ask 10 0 (isSome (countFor (q .bound) segs)) ∷ [])))
+    (slotBytes (q .kind) (answer .error) (answer .rows) ++ drop slotLength slot)
+    slot
+
+slot-on : (q : Query) (log : List ℕ) (segs : List (Span ℕ)) (slot : List ℕ) → logSegments (q .kind) log ≡ segs
+    → querySlot q log slot ≡ slotOn q log segs slot
+unfolding querySlot queryQuestions enoughRows answerOf logSegments slotOn
+slot-on q log segs slot e = rw e
+
+written-G : slotOn (query 0 (Rows 4)) (bytes log-G) segments-G (replicate 770 9) ≡ wholeSlot bytes-G ++ (9 ∷ 9 ∷ [])
+unfolding sumFrom sumOf listFrom isSome numberAt bytesOf groupCount frameCount spanLength adjacent nowhere recordLength recordBytes recordAt recordCount records segmentAt gap lastGap runsTo block empty totalsOf add totals nearest rowValue squared errorWith blockError rowOf untried plus below exceeds weigh scan single cell least weighed cutsOf rowsOf fewest within firstThat mostRows chosen rowsTried errorOf gapBelow runs leastOf countFor reducedTo reduced slotLength ask each marked askRoom kindKnown boundKnown groupKnown spanQuestions recordQuestions mostRecords logQuestions orderQuestions lent rowBytes rowsBytes usedBytes slotBytes slotOn
+written-G = refl
+
+-- what a query of G with c = 4 leaves in a buffer of 770 bytes: the slot, and the last two bytes as they were
+pub slot-of-G : querySlot (query 0 (Rows 4)) (bytes log-G) (replicate 770 9) ≡ wholeSlot bytes-G ++ (9 ∷ 9 ∷ [])
+slot-of-G = slot-on (query 0 (Rows 4)) (bytes log-G) segments-G (replicate 770 9) (worked-cases .0 .0 .0) ∙ written-G

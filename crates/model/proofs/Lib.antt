@@ -1,3 +1,3 @@
 -- The paper's worked cases, shown of the definitions.
-mod Page
+pub mod Page
 pub mod Cases

@@ -1,10 +1,10 @@
 -- The segments of a log can be found among the frames up to its greatest last frame: a page that is short enough to
 -- compute. Assumes nothing.
-use Prim.Native.Nat.{ℕ, zero, suc, _+_, _-_, _≤_, _<_, max}
+use Prim.Native.Nat.{ℕ, zero, suc, _+_, _-_, _≤_, max}
 use mathlib.Core.Bool.{Bool, true, false, _&&_, cond}
 use mathlib.Core.List.{List, [], _∷_, foldr}
-use mathlib.Core.Option.{Option, none, some}
-use mathlib.Core.Path.{_≡_, refl, sym, ap, _∙_}
+use mathlib.Core.Option.{Option, none}
+use mathlib.Core.Path.{_≡_, refl, ap, _∙_}
 use native.Mathlib.Nat.{suc-add, zero-add}
 use native.Mathlib.Omega.{arith}
 use lib.Dec.{ltb, leb, eqb}
@@ -29,7 +29,8 @@ meeting-none (r ∷ rs) g f h =
     let late : leb f (r .last) ≡ false = lt-leb f (r .last) (omega arith) in
     rw (late, and-false (eqb (r .group) g && leb (r .first) f)) (meeting-none rs g f (omega arith))
 
-value-none : (kind : ℕ) (rs : List (Span ℕ)) (g f : ℕ) → horizon rs ≤ f → value kind rs g f ≡ none
+-- past the page no frame has a value
+pub value-none : (kind : ℕ) (rs : List (Span ℕ)) (g f : ℕ) → horizon rs ≤ f → value kind rs g f ≡ none
 unfolding value aggregated
 value-none kind rs g f h = rw (meeting-none rs g f h) (either (ltb g groupCount && ltb f frameCount))
   where

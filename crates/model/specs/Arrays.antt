@@ -1,6 +1,6 @@
 -- The code's arrays as lists of spans, and back: what each place holds, zeros past the last span.
-use Prim.Native.Nat.{ℕ, zero, suc, _-_}
-use mathlib.Core.List.{List, [], _∷_, _++_, map}
+use Prim.Native.Nat.{ℕ, _-_}
+use mathlib.Core.List.{List, _++_, map}
 use lib.ListN.{length, getD, replicate}
 use Rattle.model.specs.Common.{listFrom}
 use Rattle.model.specs.Spans.{Span, nowhere}

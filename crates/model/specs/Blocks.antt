@@ -1,7 +1,7 @@
 -- Gaps, runs, blocks and their totals, row values and errors. Segments are numbered from 0, by a function `seg`, and
 -- `block seg j i` is those from j up to i, i not included: the paper's segments j+1 to i.
 use Prim.Native.Nat.{ℕ, zero, suc, _+_, _-_, _*_, _/_, _%_}
-use mathlib.Core.Bool.{Bool, true, false, not, cond}
+use mathlib.Core.Bool.{Bool, true, not, cond}
 use mathlib.Core.List.{List, [], _∷_}
 use lib.Dec.{ltb}
 use lib.IntN.{ℤ, pos, _-ℤ_, natAbs}

@@ -1,7 +1,7 @@
 -- What each call answers, and what the places lent to it hold afterwards. For each answer that is an enum, the paper's
 -- number and values for each of its cases.
 use Prim.Native.Nat.{ℕ, suc}
-use mathlib.Core.Bool.{Bool, true, false, cond}
+use mathlib.Core.Bool.{false, cond}
 use mathlib.Core.List.{List, [], _∷_, _++_, map}
 use mathlib.Core.Option.{Option, none, some, Option·getD}
 use lib.Dec.{ltb, eqb}
@@ -9,7 +9,7 @@ use lib.ListN.{length, drop}
 use Rattle.model.specs.Spans.{Span}
 use Rattle.model.specs.Log.{recordLength, recordBytes, records}
 use Rattle.model.specs.Segments.{segments}
-use Rattle.model.specs.Split.{Reduced, reduced}
+use Rattle.model.specs.Split.{mostRows, Reduced, reduced}
 use Rattle.model.specs.Slot.{slotLength, slotBytes, slotKind, slotCount, slotError, slotRow, slotRows, valueIn}
 use Rattle.model.specs.Questions.{Question, ask, askRoom, kindKnown, Outcome, refused, accepted, outcome, lent}
 use Rattle.model.specs.Questions.{writeQuestions, segmentsQuestions, queryQuestions, slotQuestions, lookupQuestions}
@@ -106,6 +106,15 @@ countsOf r = record { rows = length (r .rows); error = r .error; weighed = r .we
 unfoldable pub queryOutcome : Query → List ℕ → ℕ → Outcome Counts
 queryOutcome q log room = outcome (queryQuestions q log room) (countsOf (answerOf q log))
 
+-- the cuts weighed of an answer: 0 in a refusal
+unfoldable pub cutsWeighed : Outcome Counts → ℕ
+cutsWeighed (refused number index) = 0
+cutsWeighed (accepted counts) = counts .weighed
+
+-- the cuts that a query weighs: those of its table where every question is passed, and else 0
+unfoldable pub queryWeighed : Query → List ℕ → ℕ → ℕ
+queryWeighed q log room = lent (queryQuestions q log room) ((answerOf q log) .weighed) 0
+
 unfoldable pub querySlot : Query → List ℕ → List ℕ → List ℕ
 querySlot q log slot =
     lent (queryQuestions q log (length slot))
@@ -121,6 +130,14 @@ boundOf letter x = cond (eqb letter 0x52) (some (Rows x)) (cond (eqb letter 0x45
 unfoldable pub letterQuestions : ℕ → ℕ → List Question
 letterQuestions kind room = askRoom slotLength room ∷ ask 2 0 (kindKnown kind) ∷ ask 3 0 false ∷ []
 
+-- all questions of a query by letter: where the letter names a bound, that query's
+unfoldable pub byLetterQuestions : ℕ → ℕ → ℕ → List ℕ → ℕ → List Question
+byLetterQuestions kind letter x log room =
+    elim (boundOf letter x) [
+      | none ↦ letterQuestions kind room
+      | some bound ↦ queryQuestions (record { kind = kind; bound = bound }) log room
+    ]
+
 unfoldable pub letterOutcome : ℕ → ℕ → ℕ → List ℕ → ℕ → Outcome Counts
 letterOutcome kind letter x log room =
     elim (boundOf letter x) [
@@ -133,6 +150,11 @@ letterSlot kind letter x log slot =
     elim (boundOf letter x)
     [ none ↦ slot | some bound ↦ querySlot (record { kind = kind; bound = bound }) log slot ]
 
+unfoldable pub letterWeighed : ℕ → ℕ → ℕ → List ℕ → ℕ → ℕ
+letterWeighed kind letter x log room =
+    elim (boundOf letter x)
+    [ none ↦ 0 | some bound ↦ queryWeighed (record { kind = kind; bound = bound }) log room ]
+
 -- The reader: kind, error and row count, and the rows beside them.
 
 pub record Header : Type 0 where
@@ -144,14 +166,31 @@ unfoldable pub readCase : ReadAnswer → Outcome Header
 readCase (read-answer.Slot kind error rows) = accepted (record { kind = kind; error = error; rows = rows })
 readCase (read-answer.Refused r) = refused (r .question) (r .index)
 
+-- what the slot's first bytes say
+abbrev pub headerOf : List ℕ → Header
+headerOf slot = record { kind = slotKind slot; error = slotError slot; rows = slotCount slot }
+
 unfoldable pub readOutcome : List ℕ → Outcome Header
-readOutcome slot =
-    outcome (slotQuestions slot)
-    (record { kind = slotKind slot; error = slotError slot; rows = slotCount slot })
+readOutcome slot = outcome (slotQuestions slot) (headerOf slot)
 
 -- the rows read, none in a refusal
 unfoldable pub readRows : List ℕ → List (Span ℕ)
 readRows slot = lent (slotQuestions slot) (slotRows slot) []
+
+-- The reader into a lent list of rows: question 1 asks for 64 places too. The first places hold the rows read, and those behind
+-- them what they held.
+
+unfoldable pub readListQuestions : List ℕ → ℕ → List Question
+readListQuestions slot room = askRoom mostRows room ∷ slotQuestions slot
+
+unfoldable pub readListOutcome : List ℕ → ℕ → Outcome Header
+readListOutcome slot room = outcome (readListQuestions slot room) (headerOf slot)
+
+unfoldable pub readList : List ℕ → List Row → List Row
+readList slot list =
+    lent (readListQuestions slot (length list))
+    (map rowOfSpan (slotRows slot) ++ drop (length (slotRows slot)) list)
+    list
 
 -- The walk by slot and number: a row, or none for 'end'; and the number of the next row, unchanged at the end and in a
 -- refusal.

@@ -1,7 +1,7 @@
 -- What the tool owes its user, as statements about the definitions. The proofs are in the crate `theory`; the calls of the
 -- tool promise to answer as the definitions do, so that each statement is one about the calls.
-use Prim.Native.Nat.{ℕ, zero, suc, _+_, _*_, _^_, _≤_, _<_}
-use mathlib.Core.Bool.{Bool, true, false}
+use Prim.Native.Nat.{ℕ, suc, _*_, _^_, _≤_, _<_}
+use mathlib.Core.Bool.{true, false}
 use mathlib.Core.List.{List, [], _∷_, _++_, map, List·Memᴰ}
 use mathlib.Core.Logic.{_⊎_, _↔_}
 use mathlib.Core.Option.{Option, none, some}
@@ -15,14 +15,16 @@ use Rattle.model.specs.Blocks.{segmentAt, gap}
 use Rattle.model.specs.Split.{Reduced, errorOf, gapBelow, runs, rowsOf, mostRows}
 use Rattle.model.specs.Reductions.{IsReduction, Merges, BestWithin, FewestWithin, reductionError}
 use Rattle.model.specs.Slot.{slotLength, slotBytes}
-use Rattle.model.specs.Questions.{Question, Outcome, refused, accepted, kindKnown, rowKnown, follows}
+use Rattle.model.specs.Questions.{Question, Outcome, refused, accepted, kindKnown, boundKnown, rowKnown, follows}
 use Rattle.model.specs.Questions.{logQuestions, orderQuestions, writeQuestions, segmentsQuestions, queryQuestions, slotQuestions, lookupQuestions, mostSegments}
-use Rattle.model.specs.Calls.{Counts, Header, writeOutcome, writtenBuffer, segmentsOutcome, filledList, logSegments, queryOutcome, querySlot, answerOf, countsOf, readOutcome, readRows, stepOutcome, stepNext, lookupOutcome}
-use Rattle.model.specs.Fitting.{Fits, hits, due, squaredError, WithinShare, Exceeds}
+use Rattle.model.specs.Calls.{Counts, Header, writeOutcome, writtenBuffer, segmentsOutcome, filledList, logSegments, queryOutcome, querySlot, answerOf, countsOf, readOutcome, readRows, readListQuestions, readListOutcome, readList, stepOutcome, stepNext, lookupOutcome}
+use Rattle.model.specs.Calls.{cutsWeighed, queryWeighed, boundOf, byLetterQuestions, letterOutcome, letterSlot, letterWeighed}
+use Rattle.model.specs.Fitting.{Fits, hits, due, squaredError, LeastOfFewest, WithinShare, Exceeds}
 use Rattle.model.specs.declared.Bound.{Bound}
 use Rattle.model.specs.declared.Bound.the-variants.{Rows, Share}
 use Rattle.model.specs.declared.Query.{Query}
 use Rattle.model.specs.declared.Segment.{Segment}
+use Rattle.model.specs.declared.Row.{Row}
 
 -- Demand 1. Every function of the tool is proved to end without fault; what is left to say is what a refusal is.
 
@@ -54,7 +56,12 @@ pub record Demand1 : Type 0 where
       (filledList kind log list)
   pub query : (q : Query) (log slot : List ℕ)
       → Asks (queryQuestions q log (length slot)) (queryOutcome q log (length slot)) slot (querySlot q log slot)
+  pub letter : (kind letter x : ℕ) (log slot : List ℕ)
+      → Asks (byLetterQuestions kind letter x log (length slot)) (letterOutcome kind letter x log (length slot)) slot
+      (letterSlot kind letter x log slot)
   pub read : (slot : List ℕ) → Asks (slotQuestions slot) (readOutcome slot) slot slot
+  pub readList : (slot : List ℕ) (list : List Row)
+      → Asks (readListQuestions slot (length list)) (readListOutcome slot (length list)) list (readList slot list)
   pub step : (slot : List ℕ) (number : ℕ)
       → Asks (slotQuestions slot) (stepOutcome slot number) number (stepNext slot number)
   pub lookup : (slot : List ℕ) (group frame : ℕ)
@@ -118,6 +125,10 @@ pub record Demand2 : Type 0 where
   pub reduction : (q : Query) (log : List ℕ) (room : ℕ) (counts : Counts) → queryOutcome q log room ≡ accepted counts
       → (cuts : List ℕ) × Cut (logSegments (q .kind) log) (answerOf q log) cuts
       × Reduces (q .bound) (logSegments (q .kind) log) cuts × (countsOf (answerOf q log) ≡ counts)
+  -- the empty log gives 0 rows and error 0, for every kind and every bound that passes question 3
+  pub emptyLog : (q : Query) (room : ℕ) → slotLength ≤ room → kindKnown (q .kind) ≡ true → boundKnown (q .bound) ≡ true
+      → (answerOf q [] ≡ record { rows = []; error = 0; weighed = 0 })
+      × (queryOutcome q [] room ≡ accepted (record { rows = 0; error = 0; weighed = 0 }))
   pub written : (q : Query) (log slot : List ℕ) (counts : Counts) → queryOutcome q log (length slot) ≡ accepted counts
       → Reads (querySlot q log slot) (q .kind) ((answerOf q log) .error) ((answerOf q log) .rows)
   pub roundTrip : (kind error : ℕ) (rows : List (Span ℕ)) (rest : List ℕ) → Storable kind error rows
@@ -175,3 +186,26 @@ pub record Demand3 : Type 0 where
       → BestSlot q log (querySlot q log slot)
   pub tooFew : (q : Query) (log slot : List ℕ) → slotLength ≤ length slot → AllPass (orderQuestions q log)
       → SaysTooFew q log (queryOutcome q log (length slot))
+  -- with no covered frame only the list of 0 rows fits
+  pub uncovered : (val : ℕ → ℕ → Option ℕ) → ((g f : ℕ) → val g f ≡ none)
+      → (rows : List (Span ℤ)) → Fits val rows ↔ (rows ≡ [])
+  -- there is exactly one least squared error among the fitting lists with the fewest rows, so that every list is within the
+  -- share or exceeds it
+  pub oneLeast : (kind : ℕ) (log : List ℕ)
+      → (L : ℕ) × LeastOfFewest (value kind (records log)) L
+      × ((M : ℕ) → LeastOfFewest (value kind (records log)) M → M ≡ L)
+
+-- What a call promises beyond the equations for its answer and its slot.
+
+-- a query that answers so and leaves this slot: its number of cuts weighed; best rows where it is accepted; 'too few rows'
+-- where no rows do, and there alone
+pub record QueryPromise (q : Query) (log slot : List ℕ) (says : Outcome Counts) (after : List ℕ) : Type 0 where
+  pub weighed : cutsWeighed says ≡ queryWeighed q log (length slot)
+  pub best : (counts : Counts) → says ≡ accepted counts → BestSlot q log after
+  pub tooFew : slotLength ≤ length slot → AllPass (orderQuestions q log) → SaysTooFew q log says
+
+-- the same of a query by letter, for the bound that the letter names
+pub record LetterPromise (kind letter x : ℕ) (log slot : List ℕ) (says : Outcome Counts) (after : List ℕ) : Type 0 where
+  pub weighed : cutsWeighed says ≡ letterWeighed kind letter x log (length slot)
+  pub named : (bound : Bound) → boundOf letter x ≡ some bound
+      → QueryPromise (record { kind = kind; bound = bound }) log slot says after

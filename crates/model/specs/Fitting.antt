@@ -1,6 +1,6 @@
 -- The words of demand 3. A list of rows, in any order, each with a group, a first and a last frame and any whole number,
 -- is judged against the values of frames, and nothing here knows of segments or blocks.
-use Prim.Native.Nat.{ℕ, zero, suc, _+_, _*_, _≤_}
+use Prim.Native.Nat.{ℕ, suc, _*_, _≤_}
 use mathlib.Core.Bool.{cond}
 use mathlib.Core.List.{List, [], _∷_, List·Memᴰ}
 use mathlib.Core.Option.{Option, none, some}

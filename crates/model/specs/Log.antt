@@ -1,6 +1,6 @@
 -- From bytes to records, and from records to the values of frames.
 use Prim.Native.Nat.{ℕ, zero, suc, _+_, _*_, _/_, min, max}
-use mathlib.Core.Bool.{Bool, true, false, _&&_, cond}
+use mathlib.Core.Bool.{_&&_, cond}
 use mathlib.Core.List.{List, [], _∷_, _++_, foldr}
 use mathlib.Core.Option.{Option, none, some}
 use lib.Dec.{ltb}

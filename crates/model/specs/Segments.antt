@@ -1,6 +1,6 @@
 -- Instant temporal aggregation (source document 000, Definition 1): the covered frames, joined where neighbours agree.
 use Prim.Native.Nat.{ℕ, zero, suc}
-use mathlib.Core.Bool.{Bool, true, false, _&&_, cond}
+use mathlib.Core.Bool.{Bool, _&&_, cond}
 use mathlib.Core.List.{List, [], _∷_, foldr}
 use mathlib.Core.Option.{Option, none, some}
 use lib.Dec.{eqb}

@@ -1,7 +1,6 @@
 -- Spans of frames. A log record, a segment and a row are each a group, a first and a last frame, both included, and a number.
-use Prim.Native.Nat.{ℕ, zero, suc, _+_, _-_, _≤_}
-use mathlib.Core.Bool.{Bool, true, false, _&&_}
-use mathlib.Core.List.{List, [], _∷_}
+use Prim.Native.Nat.{ℕ, suc, _-_}
+use mathlib.Core.Bool.{Bool, _&&_}
 use lib.Dec.{leb, eqb}
 
 pub record Span (A : Type 0) : Type 0 where

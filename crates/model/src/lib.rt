@@ -50,23 +50,24 @@ pub struct Segment {
 
 // The records of a log, field by field. Places past the count are zeros.
 pub struct Records {
-    pub groups: [u8; 128],
-    pub firsts: [u16; 128],
-    pub lasts: [u16; 128],
-    pub loads: [u16; 128],
+    pub groups: [u8; MOST_RECORDS],
+    pub firsts: [u16; MOST_RECORDS],
+    pub lasts: [u16; MOST_RECORDS],
+    pub loads: [u16; MOST_RECORDS],
     pub count: usize,
 }
 
 // Segments, field by field. Places past the count are zeros.
 pub struct Segments {
-    pub groups: [u8; 255],
-    pub firsts: [u16; 255],
-    pub lasts: [u16; 255],
-    pub values: [u32; 255],
+    pub groups: [u8; MOST_SEGMENTS],
+    pub firsts: [u16; MOST_SEGMENTS],
+    pub lasts: [u16; MOST_SEGMENTS],
+    pub values: [u32; MOST_SEGMENTS],
     pub count: usize,
 }
 
 // A row of a slot: a block of adjacent segments with its row value.
+#[repr(C)]
 pub struct Row {
     pub group: u8,
     pub first: u16,
@@ -128,7 +129,7 @@ pub enum ReadAnswer {
 // What the reader gives: its answer, and the rows beside it. Places past the last row are rows of zeros.
 pub struct Reading {
     pub answer: ReadAnswer,
-    pub rows: [Row; 64],
+    pub rows: [Row; MOST_ROWS],
 }
 
 // One step of a walk over a slot's rows.

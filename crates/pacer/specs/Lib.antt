@@ -1,3 +1,2 @@
--- What a query prepares before it writes, and what is promised of a query and its reader together.
-pub mod Prepared
+-- What is promised of a query and its reader together.
 pub mod Promises

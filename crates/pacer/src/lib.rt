@@ -1,28 +1,27 @@
 // The tool's calls. Each answers every input, says by equation with the definitions what it answers and what the places
 // lent to it hold afterwards, and a query promises the third demand besides: its rows are best.
-mod preparing;
-
 use model::Bound;
 use model::LookupAnswer;
+use model::MOST_KIND;
 use model::Query;
 use model::QueryAnswer;
+use model::ReadAnswer;
 use model::Reading;
 use model::Record;
 use model::RecordAnswer;
+use model::SLOT_LENGTH;
 use model::Walked;
 use preparing::is_written;
 use preparing::prepare;
 use preparing::refused;
 ghost use mathlib.Core.Path.{_≡_};
-ghost use Prim.Native.Nat.{_≤_};
 ghost use lib.ListN.{length};
-ghost use Rattle.model.specs.Slot.{slotLength};
-ghost use Rattle.model.specs.Questions.{outcome, accepted, orderQuestions};
+ghost use Rattle.model.specs.Questions.{outcome, accepted};
 ghost use Rattle.model.specs.Calls.{recordSpan, recordCase, writeOutcome, writtenBuffer};
 ghost use Rattle.model.specs.Calls.{Counts, queryCase, queryOutcome, querySlot, letterQuestions, letterOutcome, letterSlot};
 ghost use Rattle.model.specs.Calls.{readCase, readOutcome, readRows, stepCase, stepOutcome, stepNext, lookupCase, lookupOutcome};
 ghost use Rattle.model.specs.Arrays.{rowArray};
-ghost use Rattle.model.specs.Demands.{AllPass, BestSlot, SaysTooFew};
+ghost use Rattle.model.specs.Demands.{QueryPromise, LetterPromise};
 ghost use Rattle.pacer.specs.Promises.{BestReading, noCounts};
 
 // A query's answer, and what the reader made of the slot after it.
@@ -43,8 +42,7 @@ pub fn write_record(record: Record, buffer: &mut [u8]) -> RecordAnswer
 pub fn query(query: Query, log: &[u8], slot: &mut [u8]) -> QueryAnswer
     ensures says { λ r. ⌜ queryCase r ≡ queryOutcome query (now (log .entry)) (length (now (slot .entry))) ⌝ }
     ensures holds { λ _. ⌜ now (slot .exit) ≡ querySlot query (now (log .entry)) (now (slot .entry)) ⌝ }
-    ensures best { λ r. ⌜ ((counts : Counts) → queryCase r ≡ accepted counts → BestSlot query (now (log .entry)) (now (slot .exit))) ⌝ }
-    ensures too_few { λ r. ⌜ (slotLength ≤ length (now (slot .entry)) → AllPass (orderQuestions query (now (log .entry))) → SaysTooFew query (now (log .entry)) (queryCase r)) ⌝ }
+    ensures promise { λ r. ⌜ QueryPromise query (now (log .entry)) (now (slot .entry)) (queryCase r) (now (slot .exit)) ⌝ }
 {
     let prepared = prepare(query, log, slot.len());
     let answer = prepared.answer;
@@ -52,7 +50,7 @@ pub fn query(query: Query, log: &[u8], slot: &mut [u8]) -> QueryAnswer
         return answer;
     }
     let bytes = prepared.bytes;
-    slot::store(bytes, slot);
+    layout::store(bytes, slot);
     answer
 }
 
@@ -60,6 +58,7 @@ pub fn query(query: Query, log: &[u8], slot: &mut [u8]) -> QueryAnswer
 pub fn query_by_letter(kind: u8, letter: u8, bound: u16, log: &[u8], slot: &mut [u8]) -> QueryAnswer
     ensures says { λ r. ⌜ queryCase r ≡ letterOutcome kind letter bound (now (log .entry)) (length (now (slot .entry))) ⌝ }
     ensures holds { λ _. ⌜ now (slot .exit) ≡ letterSlot kind letter bound (now (log .entry)) (now (slot .entry)) ⌝ }
+    ensures promise { λ r. ⌜ LetterPromise kind letter bound (now (log .entry)) (now (slot .entry)) (queryCase r) (now (slot .exit)) ⌝ }
 {
     if letter == 0x52 {
         return query(
@@ -88,10 +87,10 @@ pub fn query_by_letter(kind: u8, letter: u8, bound: u16, log: &[u8], slot: &mut 
 fn refuse_letter(kind: u8, room: usize) -> QueryAnswer
     ensures { λ r. ⌜ queryCase r ≡ outcome (letterQuestions kind room) noCounts ⌝ }
 {
-    if room < 768 {
+    if room < SLOT_LENGTH {
         return refused(1, 0);
     }
-    if kind > 3 {
+    if kind > MOST_KIND {
         return refused(2, 0);
     }
     refused(3, 0)
@@ -103,6 +102,7 @@ pub fn query_and_read(query: Query, log: &[u8], slot: &mut [u8]) -> Queried
     ensures holds { λ _. ⌜ now (slot .exit) ≡ querySlot query (now (log .entry)) (now (slot .entry)) ⌝ }
     ensures header { λ r. ⌜ readCase (r .reading .answer) ≡ readOutcome (now (slot .exit)) ⌝ }
     ensures rows { λ r. ⌜ r .reading .rows ≡ rowArray (readRows (now (slot .exit))) ⌝ }
+    ensures promise { λ r. ⌜ QueryPromise query (now (log .entry)) (now (slot .entry)) (queryCase (r .answer)) (now (slot .exit)) ⌝ }
     ensures best { λ r. ⌜ ((counts : Counts) → queryCase (r .answer) ≡ accepted counts → BestReading query (now (log .entry)) (r .reading)) ⌝ }
 {
     let answer = crate::query(query, log, slot);
@@ -110,23 +110,30 @@ pub fn query_and_read(query: Query, log: &[u8], slot: &mut [u8]) -> Queried
     Queried { answer, reading }
 }
 
+// Reads a slot's header: kind, error and row count.
+pub fn read_header(slot: &[u8]) -> ReadAnswer
+    ensures { λ r. ⌜ readCase r ≡ readOutcome (now (slot .entry)) ⌝ }
+{
+    reader::header(slot)
+}
+
 // Reads a slot: kind, error, row count and rows.
 pub fn read(slot: &[u8]) -> Reading
     ensures { λ r. ⌜ (readCase (r .answer) ≡ readOutcome (now (slot .entry))) × (r .rows ≡ rowArray (readRows (now (slot .entry)))) ⌝ }
 {
-    slot::read(slot)
+    reader::read(slot)
 }
 
 // One step of a walk over a slot: the row with this number and the number that comes next, or the end.
 pub fn row_at(slot: &[u8], number: usize) -> Walked
     ensures { λ r. ⌜ (stepCase (r .step) ≡ stepOutcome (now (slot .entry)) number) × (r .next ≡ stepNext (now (slot .entry)) number) ⌝ }
 {
-    slot::row_at(slot, number)
+    reader::row_at(slot, number)
 }
 
 // The value of the row of a group that contains a frame.
 pub fn lookup(slot: &[u8], group: u8, frame: u16) -> LookupAnswer
     ensures { λ r. ⌜ lookupCase r ≡ lookupOutcome (now (slot .entry)) group frame ⌝ }
 {
-    slot::lookup(slot, group, frame)
+    reader::lookup(slot, group, frame)
 }

@@ -17,7 +17,7 @@ use Rattle.model.specs.declared.Row.{Row}
 use Rattle.theory.proofs.Tests.{true≢false}
 use Rattle.theory.proofs.Refusals.{all-head, all-tail, outcome-accepted, accepted-query}
 use Rattle.theory.proofs.Demands.{demand2}
-use Rattle.pacer.proofs.Answering.{rows-held}
+use Rattle.preparing.proofs.Answering.{rows-held}
 use Rattle.text.specs.Text.{answerText}
 use Rattle.text.specs.Put.{rowCount}
 use Rattle.report.specs.Report.{letterRows, queryText}

@@ -1,35 +1,12 @@
 // What the program prints, from what it reads: a query and its log as bytes, and the answer as text.
+use common::no_slot;
+use common::two;
 use model::Refusal;
 ghost use mathlib.Core.Path.{_≡_};
-ghost use Prim.Native.Nat.{_+_, _≤_};
-ghost use lib.ListN.{length, take, replicate};
-ghost use Rattle.model.specs.Common.{numberAt};
+ghost use Prim.Native.Nat.{_≤_};
+ghost use lib.ListN.{length, take};
 ghost use Rattle.text.specs.Text.{refusalText};
 ghost use Rattle.report.specs.Report.{queryText, profileText};
-
-// A byte as a wider number.
-fn wide(x: u8) -> u16
-    ensures { λ r. ⌜ r ≡ x ⌝ }
-{
-    x as u16
-}
-
-// The number in the two bytes from a place on.
-pub fn number(bytes: &[u8], at: usize) -> u16
-    requires { ⌜ at + 2 ≤ length (now bytes) ⌝ }
-    ensures { λ r. ⌜ r ≡ numberAt 2 (now (bytes .entry)) at ⌝ }
-{
-    let low = bytes[at];
-    let high = bytes[at + 1];
-    wide(low) + 256 * wide(high)
-}
-
-// A slot in which nothing stands.
-fn no_slot() -> [u8; 768]
-    ensures { λ r. ⌜ r ≡ replicate 768 0 ⌝ }
-{
-    [0u8; 768]
-}
 
 // The text of a refusal ahead of all questions.
 fn refuse(question: u8, out: &mut [u8; 4096]) -> usize
@@ -61,5 +38,5 @@ pub fn report(input: &[u8], out: &mut [u8; 4096]) -> usize
         return refuse(2, out);
     }
     let log = &input[4..];
-    answer(input[0], input[1], number(input, 2), log, out)
+    answer(input[0], input[1], two(input, 2), log, out)
 }

@@ -1,20 +1,20 @@
 -- Group by group: the frames of one group behind what is made, from the group's records alone, and then those of the groups left.
 -- And segments have places enough. Assumes nothing.
 use Prim.Native.Nat.{ℕ, zero, suc, _+_, _-_, _*_, _≤_, _<_}
-use mathlib.Core.List.{List, [], _∷_, _++_}
+use mathlib.Core.List.{List, [], _++_}
 use mathlib.Core.Logic.{⊎-elim}
 use mathlib.Core.Option.{Option}
 use mathlib.Core.Path.{_≡_, refl, ap, _∙_}
 use native.Mathlib.Omega.{arith}
-use lib.Dec.{eqb}
 use lib.ListN.{length}
 use borrow.Author.Tests.{lt-ltb}
-use Rattle.model.specs.Spans.{Span, groupCount, frameCount, meets}
-use Rattle.model.specs.Log.{meeting, value}
-use Rattle.model.specs.Segments.{place, framesFrom, groupsFrom, segmentsOf, segments}
+use Rattle.model.specs.Spans.{Span, groupCount, frameCount}
+use Rattle.model.specs.Log.{value}
+use Rattle.model.specs.Segments.{framesFrom, groupsFrom, segmentsOf, segments}
 use Rattle.theory.proofs.Count.{few-segments}
-use Rattle.theory.proofs.Tests.{cases}
-use Rattle.segments.specs.Steps.{onlyOf, loadsAt, ownValue, joined}
+use Rattle.tally.proofs.Loads.{meeting-own}
+use Rattle.tally.specs.Tally.{onlyOf, ownValue}
+use Rattle.segments.specs.Steps.{joined}
 use Rattle.segments.proofs.Stretches.{frames-before}
 
 -- segments are the joined frames of all groups
@@ -35,14 +35,7 @@ module _ {A : Type 0} (val : ℕ → ℕ → Option A) (frames : ℕ) where
   unfolding groupsFrom
   groups-past g end past = let e : end - g ≡ 0 = omega arith in rw e
 
--- the loads at a frame of a group are those of the group's records
-meeting-own : (rs : List (Span ℕ)) (g f : ℕ) → meeting rs g f f ≡ loadsAt f (onlyOf g rs)
-unfolding meeting meets onlyOf loadsAt
-meeting-own [] g f = refl
-meeting-own (r ∷ rs) g f =
-    cases (eqb (r .group) g) (λ e. rw (e, meeting-own rs g f)) (λ e. rw (e, meeting-own rs g f))
-
--- so its frames have the values that these records give them
+-- the frames of a group have the values that its records give them
 pub frames-own : (kind : ℕ) (rs : List (Span ℕ)) (g : ℕ) → g < groupCount → (f count : ℕ) → f + count ≤ frameCount
     → framesFrom (value kind rs) g f count [] ≡ framesFrom (ownValue kind (onlyOf g rs)) g f count []
 unfolding framesFrom value ownValue

@@ -12,7 +12,8 @@ use Rattle.model.specs.Segments.{join}
 use Rattle.model.specs.Arrays.{spanIn, segmentsIn, segmentArrays}
 use Rattle.model.specs.declared.Segments.{Segments}
 use Rattle.theory.proofs.SlotLaws.{length-listFrom}
-use Rattle.log.proofs.Columns.{listFrom-snoc, column-snoc, column-again, column-more, segments-held}
+use Rattle.theory.proofs.Lists.{listFrom-snoc}
+use Rattle.log.proofs.Columns.{column-snoc, column-again, column-more, segments-held}
 use Rattle.segments.specs.Steps.{joins, joined, Made}
 use Rattle.segments.proofs.Joining.{joinsLast, Apart, Ends, no-end, end, ends, joined-joined, joined-append, joined-le, joined-apart, joinsLast-none, joinsLast-end, last-joined, last-apart}
 

@@ -1,62 +1,25 @@
 -- From event to event: between two events the records that hold a frame do not change, so the frames of such a stretch have
 -- one value, or none, and join to one span. Assumes nothing.
 use Prim.Native.Nat.{ℕ, zero, suc, _+_, _-_, _≤_, _<_}
-use mathlib.Core.Bool.{true, false}
+use mathlib.Core.Bool.{true}
 use mathlib.Core.List.{List, [], _∷_, _++_, foldr, append-assoc, foldr-append}
 use mathlib.Core.Option.{Option, none, some}
 use mathlib.Core.Path.{_≡_, refl, sym, ap, _∙_}
 use native.Mathlib.Omega.{arith}
 use native.Mathlib.Nat.{add-zero}
-use lib.Dec.{leb, ltb, eqb}
+use lib.Dec.{eqb}
 use lib.ListN.{length}
-use borrow.Author.Tests.{ltb-true, ltb-false, leb-true, leb-false, le-leb, lt-leb, eq-eqb}
+use borrow.Author.Tests.{eq-eqb}
 use Rattle.model.specs.Spans.{Span}
 use Rattle.model.specs.Log.{aggregated}
 use Rattle.model.specs.Segments.{join, fuse, place, framesFrom}
-use Rattle.theory.proofs.Tests.{cases, true-and, true-adjacent}
-use Rattle.segments.specs.Steps.{held, loadsAt, stopOf, stopAt, ownValue, joins, joined}
-use Rattle.segments.specs.declared.Own.{Own}
+use Rattle.theory.proofs.Tests.{true-and, true-adjacent}
+use Rattle.tally.specs.Tally.{loadsAt, stopAt, ownValue}
+use Rattle.segments.specs.Steps.{joins, joined}
+use Rattle.tally.specs.declared.Own.{Own}
 use Rattle.segments.proofs.Joining.{fuse-join}
-use Rattle.segments.proofs.Loads.{no-value}
-
--- ---- the frames up to the next event
-
-module _ (a f : ℕ) (from : a ≤ f) where
-  -- up to a record's stop it holds a frame or does not, as it does frame a
-  held-same : (r : Own) → f ≤ stopOf a r → held f r ≡ held a r
-  unfolding stopOf
-  held-same r near = cases (ltb a (r .first)) ahead begun
-    where
-      ahead : ltb a (r .first) ≡ true → held f r ≡ held a r
-      ahead e =
-          let behind = ltb-true a (r .first) e in
-          let before : f < r .first = omega (arith, rw e at near) in
-          rw (lt-leb (r .first) f before, lt-leb (r .first) a behind)
-
-      begun : ltb a (r .first) ≡ false → held f r ≡ held a r
-      begun e =
-          let first = ltb-false a (r .first) e in
-          rw (le-leb (r .first) f (omega arith), le-leb (r .first) a first)
-          (cases (leb a (r .last)) (λ h. rw (h, le-leb f (r .last) (rw (e, h) at near)))
-          (λ h. rw (h, lt-leb f (r .last) (omega (arith, leb-false a (r .last) h)))))
-
-  -- so the records that hold a frame do not change
-  loads-same : (own : List Own) → f ≤ stopAt a own → loadsAt f own ≡ loadsAt a own
-  unfolding stopAt loadsAt
-  loads-same [] near = refl
-  loads-same (r ∷ rs) near = rw (held-same r (omega arith), loads-same rs (omega arith))
-
--- a stretch has its first frame
-stop-of-from : (a : ℕ) (r : Own) → a ≤ 65535 → a ≤ stopOf a r
-unfolding stopOf
-stop-of-from a r small =
-    cases (ltb a (r .first)) (λ e. rw e (omega (arith, ltb-true a (r .first) e)))
-    (λ e. rw e (cases (leb a (r .last)) (λ h. rw h (leb-true a (r .last) h)) (λ h. rw h small)))
-
-pub stop-from : (a : ℕ) (own : List Own) → a ≤ 65535 → a ≤ stopAt a own
-unfolding stopAt
-stop-from a [] small = small
-stop-from a (r ∷ rs) small = omega (arith, stop-of-from a r small, stop-from a rs small)
+use Rattle.tally.proofs.Stops.{loads-same, stop-from}
+use Rattle.tally.proofs.Loads.{no-value}
 
 -- ---- stretches of frames
 

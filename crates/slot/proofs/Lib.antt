@@ -1,7 +1,3 @@
--- The laws that the functions' proofs cite, and what walk and lookup have in common with the reader.
-pub mod Numbers
+-- The laws that the functions' proofs cite, and what an accepted slot has.
 pub mod Answers
 pub mod Compared
-pub mod Steps
-pub mod Placed
-pub mod Walk

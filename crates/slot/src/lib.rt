@@ -1,62 +1,131 @@
-// The slot of 768 bytes, both ways: rows are laid out in it, and a slot is asked its questions, read, walked row by row and
-// looked up. A slot that is handed in may hold any bytes, of any length.
-mod fields;
-mod questions;
-mod writing;
-
-use fields::eight;
-use fields::row;
-use fields::wide;
+// A slot's rows and its questions, 1 and 11 to 17. A slot that is handed in may hold any bytes, of any length.
+use common::four;
+use common::no;
+use common::place;
+use common::two;
+use common::wide;
 use model::Asked;
-use model::LookupAnswer;
-use model::ReadAnswer;
-use model::Reading;
-use model::Refusal;
+use model::MOST_GROUP;
+use model::MOST_KIND;
+use model::MOST_ROWS;
+use model::MOST_VALUE;
 use model::Row;
-use model::Step;
-use model::Walked;
-use questions::ask_header;
-use questions::ask_rows;
-use questions::no;
-use questions::zero_tail;
-use writing::copy_in;
-use writing::header_bytes;
-use writing::no_bytes;
-use writing::row_bytes;
+use model::SLOT_LENGTH;
 ghost use mathlib.Core.Path.{_≡_};
-ghost use mathlib.Core.List.{_++_};
-ghost use Prim.Native.Nat.{_≤_};
-ghost use lib.ListN.{length, drop};
-ghost use Rattle.model.specs.Common.{listFrom};
-ghost use Rattle.model.specs.Slot.{slotBytes, slotRow, valueIn};
-ghost use Rattle.model.specs.Questions.{outcome, accepted, slotQuestions};
-ghost use Rattle.model.specs.Calls.{askedCase, readCase, readOutcome, readRows};
-ghost use Rattle.model.specs.Calls.{stepCase, stepOutcome, stepNext, lookupCase, lookupOutcome};
-ghost use Rattle.model.specs.Arrays.{rowsIn, rowArray};
+ghost use Prim.Native.Nat.{_+_, _-_, _≤_, _<_};
+ghost use lib.ListN.{length, take};
+ghost use Rattle.model.specs.Slot.{slotRow};
+ghost use Rattle.model.specs.Questions.{outcome, each, marked, rowKnown, rowQuestions, zeros, slotQuestions};
+ghost use Rattle.model.specs.Calls.{rowSpan, rowOfSpan, askedCase};
+ghost use Rattle.slot.specs.Places.{placeOf, leastPlace};
 
-// The slot of a kind, an error and the first `count` rows.
-pub fn layout(kind: u8, error: u64, rows: [Row; 64], count: usize) -> [u8; 768]
-    requires { ⌜ count ≤ 64 ⌝ }
-    ensures { λ r. ⌜ r ≡ slotBytes kind error (rowsIn rows count) ⌝ }
+// Row i of a slot.
+pub fn row(slot: &[u8], i: usize) -> Row
+    requires { ⌜ (768 ≤ length (now slot)) × (i < 64) ⌝ }
+    ensures { λ r. ⌜ r ≡ rowOfSpan (slotRow (now (slot .entry)) i) ⌝ }
 {
-    let mut bytes = no_bytes();
-    let header = header_bytes(kind, count, error);
-    copy_in(&header, &mut bytes, 0);
-    let mut i: usize = 0;
-    while i < count {
-        let row = row_bytes(rows[i]);
-        copy_in(&row, &mut bytes, fields::place(i));
-        i += 1;
+    let at = place(i);
+    Row {
+        group: slot[at + 2],
+        first: two(slot, at + 3),
+        last: two(slot, at + 5),
+        value: four(slot, at + 7),
     }
-    bytes
 }
 
-// Copies a slot into the first 768 bytes of a lent one.
-pub fn store(bytes: [u8; 768], slot: &mut [u8])
-    requires { ⌜ 768 ≤ length (now slot) ⌝ }
-    ensures { λ r. ⌜ now (slot .exit) ≡ bytes ++ drop 768 (now (slot .entry)) ⌝ }
+// Whether a mark of two bytes stands at place `at`. The two are compared as one number.
+fn marked(bytes: &[u8], at: usize, a: u8, b: u8) -> bool
+    requires { ⌜ at + 2 ≤ length (now bytes) ⌝ }
+    ensures { λ r. ⌜ r ≡ marked (now (bytes .entry)) at a b ⌝ }
 {
-    copy_in(&bytes, slot, 0);
+    two(bytes, at) == (a as u16) + 256 * (b as u16)
+}
+
+// Questions 1 and 11 to 13: room, header mark, kind and row count.
+fn ask_header(slot: &[u8]) -> Asked
+    ensures { λ r. ⌜ askedCase r ≡ outcome (take 4 (slotQuestions (now (slot .entry)))) tt ⌝ }
+{
+    if slot.len() < SLOT_LENGTH {
+        return no(1, 0);
+    }
+    if !marked(slot, 0, 0x50, 0x48) {
+        return no(11, 0);
+    }
+    if slot[2] > MOST_KIND {
+        return no(12, 0);
+    }
+    if wide(slot[3]) > MOST_ROWS {
+        return no(13, 0);
+    }
+    Asked::Passed
+}
+
+// Question 15's: whether a row's group is 0 to 7, its first frame at most its last and its value at most 128,000.
+fn row_known(row: Row) -> bool
+    ensures { λ r. ⌜ r ≡ rowKnown (rowSpan row) ⌝ }
+{
+    (row.group <= MOST_GROUP) & (row.first <= row.last) & (row.value <= MOST_VALUE)
+}
+
+// The place of a frame in the order of all groups' frames: 131,072 places for each group, of which the first 65,536 are frames.
+fn place_of(group: u8, frame: u16) -> u32
+    ensures { λ r. ⌜ r ≡ placeOf group frame ⌝ }
+{
+    0x2_0000 * (group as u32) + (frame as u32)
+}
+
+// Questions 14 to 16, of row i; it may begin at place `least` or later.
+fn ask_row(slot: &[u8], i: usize, row: Row, least: u32) -> Asked
+    requires { ⌜ (768 ≤ length (now slot)) × (i < 64) ⌝ }
+    requires { ⌜ row ≡ rowOfSpan (slotRow (now slot) i) ⌝ }
+    requires { ⌜ least ≡ leastPlace (now slot) i ⌝ }
+    ensures { λ r. ⌜ askedCase r ≡ outcome (rowQuestions (now (slot .entry)) i) tt ⌝ }
+{
+    if !marked(slot, place(i), 0x50, 0x52) {
+        return no(14, i);
+    }
+    if !row_known(row) {
+        return no(15, i);
+    }
+    if place_of(row.group, row.first) < least {
+        return no(16, i);
+    }
+    Asked::Passed
+}
+
+// Questions 14 to 16, row by row, of the first `count` rows. A row may begin behind the last frame of the row before.
+fn ask_rows(slot: &[u8], count: usize) -> Asked
+    requires { ⌜ (768 ≤ length (now slot)) × (count ≤ 64) ⌝ }
+    ensures { λ r. ⌜ askedCase r ≡ outcome (each (rowQuestions (now (slot .entry))) 0 count) tt ⌝ }
+{
+    let mut least: u32 = 0;
+    let mut i: usize = 0;
+    while i < count {
+        let row = row(slot, i);
+        let asked = ask_row(slot, i, row, least);
+        match asked {
+            Asked::Refused(r) => return Asked::Refused(r),
+            Asked::Passed => {}
+        }
+        least = place_of(row.group, row.last) + 1;
+        i += 1;
+    }
+    Asked::Passed
+}
+
+// Question 17's: whether all bytes from place `from` on, to the slot's last, are zero. They are or-ed together and compared
+// once, so that the loop has no branch.
+fn zero_tail(slot: &[u8], from: usize) -> bool
+    requires { ⌜ (from ≤ 768) × (768 ≤ length (now slot)) ⌝ }
+    ensures { λ r. ⌜ r ≡ zeros (now (slot .entry)) from (768 - from) ⌝ }
+{
+    let mut any: u8 = 0;
+    let mut i = from;
+    while i < SLOT_LENGTH {
+        any = any | slot[i];
+        i += 1;
+    }
+    any == 0
 }
 
 // Asks a slot's questions: 1 and 11 to 17.
@@ -72,7 +141,7 @@ pub fn ask(slot: &[u8]) -> Asked
             match rows {
                 Asked::Refused(r) => Asked::Refused(r),
                 Asked::Passed => {
-                    if zero_tail(slot, fields::place(count)) {
+                    if zero_tail(slot, place(count)) {
                         Asked::Passed
                     } else {
                         no(17, 0)
@@ -81,108 +150,4 @@ pub fn ask(slot: &[u8]) -> Asked
             }
         }
     }
-}
-
-// Reads a slot: kind, error, row count and rows.
-pub fn read(slot: &[u8]) -> Reading
-    ensures { λ r. ⌜ (readCase (r .answer) ≡ readOutcome (now (slot .entry))) × (r .rows ≡ rowArray (readRows (now (slot .entry)))) ⌝ }
-{
-    let asked = ask(slot);
-    match asked {
-        Asked::Refused(r) => {
-            let rows = fields::no_rows();
-            Reading {
-                answer: ReadAnswer::Refused(r),
-                rows,
-            }
-        }
-        Asked::Passed => {
-            let count = wide(slot[3]);
-            let rows = read_rows(slot, count);
-            Reading {
-                answer: ReadAnswer::Slot {
-                    kind: slot[2],
-                    error: eight(slot, 4),
-                    rows: count,
-                },
-                rows,
-            }
-        }
-    }
-}
-
-// The first `count` rows of a slot, then rows of zeros.
-fn read_rows(slot: &[u8], count: usize) -> [Row; 64]
-    requires { ⌜ (768 ≤ length (now slot)) × (count ≤ 64) ⌝ }
-    ensures { λ r. ⌜ r ≡ rowArray (listFrom 0 count (slotRow (now (slot .entry)))) ⌝ }
-{
-    let mut rows = fields::no_rows();
-    let mut i: usize = 0;
-    while i < count {
-        rows[i] = row(slot, i);
-        i += 1;
-    }
-    rows
-}
-
-// One step of a walk: the row with this number and the number that comes next, or the end.
-pub fn row_at(slot: &[u8], number: usize) -> Walked
-    ensures { λ r. ⌜ (stepCase (r .step) ≡ stepOutcome (now (slot .entry)) number) × (r .next ≡ stepNext (now (slot .entry)) number) ⌝ }
-{
-    let asked = ask(slot);
-    match asked {
-        Asked::Refused(r) => Walked {
-            step: Step::Refused(r),
-            next: number,
-        },
-        Asked::Passed => {
-            if number < wide(slot[3]) {
-                Walked {
-                    step: Step::Found(row(slot, number)),
-                    next: number + 1,
-                }
-            } else {
-                Walked {
-                    step: Step::End,
-                    next: number,
-                }
-            }
-        }
-    }
-}
-
-// The value of the row of a group that contains a frame.
-pub fn lookup(slot: &[u8], group: u8, frame: u16) -> LookupAnswer
-    ensures { λ r. ⌜ lookupCase r ≡ lookupOutcome (now (slot .entry)) group frame ⌝ }
-{
-    let asked = ask(slot);
-    match asked {
-        Asked::Refused(r) => LookupAnswer::Refused(r),
-        Asked::Passed => {
-            if group <= 7 {
-                find(slot, wide(slot[3]), group, frame)
-            } else {
-                LookupAnswer::Refused(Refusal {
-                    question: 7,
-                    index: 0,
-                })
-            }
-        }
-    }
-}
-
-// The value of the first row, of the first `count` of a slot, that is of a group and contains a frame.
-fn find(slot: &[u8], count: usize, group: u8, frame: u16) -> LookupAnswer
-    requires { ⌜ (768 ≤ length (now slot)) × (count ≤ 64) ⌝ }
-    ensures { λ r. ⌜ lookupCase r ≡ accepted (valueIn (listFrom 0 count (slotRow (now (slot .entry)))) group frame) ⌝ }
-{
-    let mut next: usize = 0;
-    while next < count {
-        let here = row(slot, next);
-        if fields::holds(here, group, frame) {
-            return LookupAnswer::Value(here.value);
-        }
-        next += 1;
-    }
-    LookupAnswer::Uncovered
 }

@@ -1,6 +1,3 @@
--- Laws of the columns, the scan and the table, over plain values.
-pub mod Places
-pub mod Grown
-pub mod Scan
-pub mod Filling
-pub mod Steps
+-- The reduction goes by what blocks that cross no gap cost; what measured segments cost; and the reduction of no segments.
+pub mod Sharing
+pub mod Measuring

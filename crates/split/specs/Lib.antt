@@ -1,2 +1,2 @@
--- What the code's numbers and arrays stand for.
-pub mod Held
+-- What the functions that share rows out ask and promise.
+pub mod Ready

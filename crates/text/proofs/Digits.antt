@@ -1,22 +1,18 @@
 -- Laws of decimal digits. Assumes nothing.
 use Prim.Native.Nat.{ℕ, zero, suc, _+_, _-_, _/_, _%_, _^_, _≤_, _<_, zero-le}
 use mathlib.Core.Bool.{true, false}
-use mathlib.Core.Path.{_≡_, refl}
-use mathlib.Core.List.{[], _∷_, _++_}
+use mathlib.Core.Path.{_≡_, refl, ap}
+use mathlib.Core.List.{List, [], _∷_, _++_}
 use native.Mathlib.Omega.{arith}
-use native.Mathlib.Nat.{pow-suc, pow-zero}
+use native.Mathlib.Nat.{pow-suc, pow-zero, one-le-pow, pow-le-pow-right}
 use native.Mathlib.Numerals.{sub-one}
-use lib.Dec.{ltb}
+use lib.Dec.{leb, ltb}
 use lib.ListN.{length, length-append}
-use borrow.Author.Tests.{ltb-true, ltb-false, lt-ltb, le-ltb}
+use borrow.Author.Tests.{leb-true, leb-false, ltb-true, ltb-false, lt-ltb, le-ltb}
 use Rattle.theory.proofs.Tests.{cases}
+use Rattle.io.specs.Digits.{glyph, Fewest}
+use Rattle.io.specs.Digits as kit
 use Rattle.text.specs.Text.{digits}
-
--- no digits
-pub digits-none : (most n : ℕ) → most ≡ 0 → digits most n ≡ []
-unfolding digits
-digits-none zero n none = refl
-digits-none (suc most) n none = absurd (omega arith)
 
 -- one digit
 pub digits-one : (most n : ℕ) → (most ≡ 0 → ⊥) → n < 10 → digits most n ≡ (48 + n) ∷ []
@@ -59,3 +55,32 @@ unfolding digits
 length-digits-most zero n = zero-le
 length-digits-most (suc most) n =
     length-more most n (suc most) (omega arith) (λ large. omega (arith, length-digits-most most (n / 10)))
+
+-- ---- the kit's digits
+
+-- a number of 64 bits has at most 20
+pub few-digits : (k n : ℕ) → Fewest 10 1 n k → n < 2 ^ 64 → k ≤ 20
+few-digits k n few small =
+    cases (leb k 20) (leb-true k 20)
+    (λ t.
+    let more = leb-false k 20 t in
+    let power : 10 ^ 20 ≤ 10 ^ (k - 1) = pow-le-pow-right (omega arith) {i = 20} {j = k - 1} (omega arith) in
+    absurd (omega (arith, few .2 (omega arith))))
+
+glyph-digit : (d : ℕ) → d < 10 → glyph d ≡ 48 + d
+glyph-digit d small = rw (lt-ltb d 10 small)
+
+-- as few digits as hold a number are its digits with no leading zero
+pub spelled : (most k n : ℕ) → Fewest 10 1 n k → k ≤ most → kit.digits 10 k n ≡ digits most n
+spelled most zero n few fits = absurd (omega arith)
+spelled most (suc zero) n few fits =
+    let small : n < 10 = omega (arith, few .1) in
+    let same : n % 10 ≡ n = omega arith in
+    rw (digits-one most n (λ z. omega arith) small, same, glyph-digit n small)
+spelled most (suc (suc k)) n few fits =
+    let large : 10 ^ suc k ≤ n = rw sub-one at (few .2 (omega arith)) in
+    let ten : 10 ≤ n = omega (arith, pow-suc 10 k, one-le-pow k 10 (omega arith)) in
+    let tenth : Fewest 10 1 (n / 10) (suc k) =
+    (omega arith, omega (arith, few .1, pow-suc 10 (suc k)), λ more. rw sub-one (omega (arith, pow-suc 10 k))) in
+    rw (digits-more most n (λ z. omega arith) ten, glyph-digit (n % 10) (omega arith))
+    (ap (λ (l : List ℕ). l ++ ((48 + n % 10) ∷ [])) (spelled (most - 1) (suc k) (n / 10) tenth (omega arith)))

@@ -1,11 +1,12 @@
 -- Laws of bytes put into a buffer: one piece of text after another is both together. Assumes nothing.
-use Prim.Native.Nat.{ℕ, suc, _+_, _≤_}
+use Prim.Native.Nat.{ℕ, suc, _+_, _-_, _≤_}
 use mathlib.Core.Path.{_≡_, refl, sym, ap, subst, _∙_}
 use mathlib.Core.List.{List, [], _∷_, _++_}
 use native.Mathlib.Omega.{arith}
 use native.Mathlib.Nat.{add-zero, add-suc, suc-add}
 use lib.ListN.{length, take, drop, set, length-append, length-set}
 use lib.Seq.{sets, sets-eq, take-at}
+use Rattle.theory.proofs.Lists.{copied-part}
 use Rattle.text.specs.Put.{putAt, Room, Put}
 
 pub length-putAt : (out : List ℕ) (at : ℕ) (bytes : List ℕ) → length (putAt out at bytes) ≡ length out
@@ -31,6 +32,17 @@ pub take-putAt : (out bytes : List ℕ) → length bytes ≤ length out → take
 take-putAt out bytes fits =
     rw (putAt-sets out 0 bytes, sets-eq bytes out 0 (omega arith))
     (take-at bytes (drop (0 + length bytes) out) (length bytes) refl)
+
+-- bytes copied over the part of a buffer from place `at` on are put there
+pub put-copied : {out : List ℕ} {at : ℕ} {bytes part : List ℕ} {next : ℕ} → Room out at bytes
+    → part ≡ take (length bytes) bytes ++ drop (length bytes) (take (length out - at) (drop at out))
+    → next ≡ at + length bytes
+    → Put out at bytes (take at out ++ (part ++ drop (length out - at) (drop at out))) next
+put-copied {out} {at} {bytes} {part} room copied behind =
+    record {
+      buffer = copied-part at (length out) bytes out part refl copied ∙ sym (putAt-sets out at bytes ∙ sets-eq bytes out at (room .fits));
+      end = behind;
+    }
 
 -- the room for a piece of text is there where it is for all
 pub room-first : {out : List ℕ} {at : ℕ} {a t : List ℕ} (b : List ℕ) → a ++ b ≡ t → Room out at t → Room out at a

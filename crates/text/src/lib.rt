@@ -1,15 +1,16 @@
 // An answer as text. Each function puts the bytes that specs/Text.antt says into a lent buffer, from a place on, and gives
 // the place after them.
+use model::MOST_ROWS;
 use model::QueryAnswer;
 use model::Refusal;
 use model::Row;
-ghost use Prim.Native.Nat.{_+_, _<_, _≤_};
+ghost use Prim.Native.Nat.{_≤_};
 ghost use mathlib.Core.Path.{_≡_};
 ghost use mathlib.Core.List.{[], _∷_, _++_};
 ghost use lib.ListN.{length, take};
 ghost use Rattle.model.specs.Calls.{queryCase, rowSpan};
 ghost use Rattle.model.specs.Arrays.{rowsIn};
-ghost use Rattle.text.specs.Text.{digits, decimal, numberLine, refusalText, rowText, rowsText, answerText};
+ghost use Rattle.text.specs.Text.{decimal, numberLine, refusalText, rowText, rowsText, answerText};
 ghost use Rattle.text.specs.Put.{Room, Put, rowCount, answerRoom, acceptedText};
 
 const SPACE: u8 = 0x20;
@@ -25,35 +26,15 @@ pub fn put_byte(out: &mut [u8], at: usize, byte: u8) -> usize
     at + 1
 }
 
-// The byte of a digit.
-fn digit(n: u64) -> u8
-    requires { ⌜ n < 10 ⌝ }
-    ensures { λ r. ⌜ r ≡ 48 + n ⌝ }
-{
-    48 + n as u8
-}
-
-// The digits of a number of at most `most` digits.
-fn put_digits(out: &mut [u8], at: usize, most: usize, n: u64) -> usize
-    requires { ⌜ Room (now out) at (digits most n) ⌝ }
-    ensures { λ r. ⌜ Put (now (out .entry)) at (digits most n) (now (out .exit)) r ⌝ }
-{
-    if most == 0 {
-        return at;
-    }
-    if n < 10 {
-        return put_byte(out, at, digit(n));
-    }
-    let next = put_digits(out, at, most - 1, n / 10);
-    put_byte(out, next, digit(n % 10))
-}
-
 // A number in decimal.
 pub fn put_number(out: &mut [u8], at: usize, n: u64) -> usize
     requires { ⌜ Room (now out) at (decimal n) ⌝ }
     ensures { λ r. ⌜ Put (now (out .entry)) at (decimal n) (now (out .exit)) r ⌝ }
 {
-    put_digits(out, at, 20, n)
+    let mut digits = [0u8; 20];
+    let count = io::decimal(n, &mut digits);
+    bytes::copy(&digits[..count], &mut out[at..]);
+    at + count
 }
 
 // A number and the byte after it.
@@ -110,7 +91,7 @@ pub fn put_row(out: &mut [u8], at: usize, row: Row) -> usize
 }
 
 // The lines of the first `count` rows.
-pub fn put_rows(out: &mut [u8], at: usize, rows: [Row; 64], count: usize) -> usize
+pub fn put_rows(out: &mut [u8], at: usize, rows: [Row; MOST_ROWS], count: usize) -> usize
     requires { ⌜ (count ≤ 64) × Room (now out) at (rowsText (rowsIn rows count)) ⌝ }
     ensures { λ r. ⌜ Put (now (out .entry)) at (rowsText (rowsIn rows count)) (now (out .exit)) r ⌝ }
 {
@@ -125,7 +106,7 @@ pub fn put_rows(out: &mut [u8], at: usize, rows: [Row; 64], count: usize) -> usi
 // The rows, error and weighed cuts of an accepted query, and the lines of its rows.
 pub fn put_accepted(
     out: &mut [u8],
-    rows: [Row; 64],
+    rows: [Row; MOST_ROWS],
     count: usize,
     error: u64,
     weighed: u64,
@@ -138,7 +119,7 @@ pub fn put_accepted(
 }
 
 // The answer of a query, from the buffer's start on, with the first of these rows as the answer's.
-pub fn put_answer(out: &mut [u8], answer: QueryAnswer, rows: [Row; 64]) -> usize
+pub fn put_answer(out: &mut [u8], answer: QueryAnswer, rows: [Row; MOST_ROWS]) -> usize
     requires { ⌜ (rowCount (queryCase answer) ≤ 64) × (answerRoom ≤ length (now out)) ⌝ }
     ensures { λ r. ⌜ (r ≤ length (now (out .exit)))
         × (take r (now (out .exit)) ≡ answerText (queryCase answer) (rowsIn rows (rowCount (queryCase answer)))) ⌝ }

@@ -1,35 +1,35 @@
 -- The paper's answer to a bound is the reduction that the bound asks for, and its rows are best among all fitting lists.
 -- Assumes nothing.
-use Prim.Native.Nat.{ℕ, zero, suc, _+_, _*_, _≤_, _<_, zero-le, min}
-use mathlib.Core.Bool.{Bool, true, false, cond}
+use Prim.Native.Nat.{ℕ, suc, _*_, _≤_, _<_, min}
+use mathlib.Core.Bool.{true, false}
 use mathlib.Core.List.{List, [], _∷_, _++_, map}
 use mathlib.Core.Logic.{_↔_}
-use mathlib.Core.Option.{Option, none, some, Option·getD}
-use mathlib.Core.Path.{_≡_, refl, sym, ap, _∙_, subst}
+use mathlib.Core.Option.{Option, none, some}
+use mathlib.Core.Path.{_≡_, refl, sym, ap, _∙_}
 use native.Mathlib.Decide.{decLe}
-use native.Mathlib.Nat.{le-refl, mul-le-mul-left}
+use native.Mathlib.Nat.{le-refl, le-antisymm, mul-le-mul-left}
 use native.Mathlib.Omega.{arith}
 use lib.Dec.{leb}
-use lib.IntN.{ℤ, pos}
-use lib.ListN.{length, length-map}
-use borrow.Author.Tests.{leb-true, leb-false, le-leb}
+use lib.IntN.{ℤ}
+use lib.ListN.{length}
+use borrow.Author.Tests.{leb-true, leb-false}
 use Rattle.model.specs.Common.{isSome}
 use Rattle.model.specs.Spans.{Span, groupCount, frameCount}
 use Rattle.model.specs.Log.{value}
 use Rattle.model.specs.Segments.{segments}
-use Rattle.model.specs.Blocks.{segmentAt, lastGap, runsTo, block, rowOf, blockError, errorWith}
-use Rattle.model.specs.Split.{least, cutsOf, rowsOf, fewest, within, firstThat, mostRows, chosen, errorOf, gapBelow, runs, leastOf, countFor, Reduced, reducedTo, reduced}
+use Rattle.model.specs.Blocks.{segmentAt, runsTo, rowOf, blockError, errorWith}
+use Rattle.model.specs.Split.{cutsOf, rowsOf, fewest, within, mostRows, chosen, errorOf, gapBelow, runs, leastOf, countFor, reducedTo}
 use Rattle.model.specs.Reductions.{IsReduction, reductionError, IsLeast, BestWithin, FewestWithin}
-use Rattle.model.specs.Fitting.{Fits, squaredError, LeastOfFewest, WithinShare, Exceeds}
+use Rattle.model.specs.Fitting.{Fits, squaredError, LeastOfFewest}
 use Rattle.model.specs.Demands.{Cut, Reduces, whole, BestOfLimit, BestOfShare, BestRows, NoRows}
 use Rattle.model.specs.declared.Bound.{Bound}
 use Rattle.model.specs.declared.Bound.the-variants.{Rows, Share}
 use Rattle.theory.proofs.Tests.{cases, true≢false}
 use Rattle.theory.proofs.Frames.{value-inside}
-use Rattle.theory.proofs.Cost.{Cost, costOf, errorIn, bestRow, bestRows, errorUnder}
+use Rattle.theory.proofs.Cost.{costOf, errorIn, bestRow, bestRows, errorUnder}
 use Rattle.theory.proofs.Blocks.{wider}
 use Rattle.theory.proofs.Nearest.{squares}
-use Rattle.theory.proofs.Table.{none≢some, some-inj, sound, cutsOf-length, blocks-le}
+use Rattle.theory.proofs.Table.{none≢some, some-inj, sound, cutsOf-length}
 use Rattle.theory.proofs.Choice.{runs-le, runsTo-le, errors-some, least-of, limit-answer, share-answer, share-none, first-some}
 use Rattle.theory.proofs.Converse.{fits, error, count}
 use Rattle.theory.proofs.Cutting.{no-better}
@@ -43,7 +43,7 @@ limitOf (Share p) = mostRows
 -- ---- the answer is the reduction that the bound asks for
 
 module _ (segs : List (Span ℕ)) where
-  widens : (a b i : ℕ) → a ≤ b → b < i → errorOf segs b i ≤ errorOf segs a i
+  pub widens : (a b i : ℕ) → a ≤ b → b < i → errorOf segs b i ≤ errorOf segs a i
   unfolding errorOf blockError errorWith errorIn costOf squares
   widens = wider squares (segmentAt segs)
 
@@ -172,14 +172,23 @@ module _ (kind : ℕ) (rs : List (Span ℕ)) where
             omega arith;
       }
 
-  -- there is one such error
-  one-least : (L M : ℕ) → LeastOfFewest val L → LeastOfFewest val M → L ≤ M
+  -- there is at most one such error
+  pub one-least : (L M : ℕ) → LeastOfFewest val L → LeastOfFewest val M → L ≤ M
   one-least L M a b =
       let down = a .fewest (b .rows) (b .fits) in
       let up = b .fewest (a .rows) (a .fits) in
       let less = a .least (b .rows) (b .fits) (omega arith) in
       let is = b .error in
       omega arith
+
+  -- and there always is one
+  pub only-least : (L : ℕ) × LeastOfFewest val L × ((M : ℕ) → LeastOfFewest val M → M ≡ L)
+  unfolding runs gapBelow
+  only-least =
+      let (L, found) =
+      errors-some seg n (errorOf segs) (widens segs) (runsTo seg n) (le-refl _) (runsTo-le seg n) in
+      let is = runs-least L (least-of seg n (errorOf segs) (widens segs) (runsTo seg n) L found) in
+      (L, is, λ M other. le-antisymm (one-least M L other is) (one-least L M is other))
 
   share-best : (p : ℕ) (cuts : List ℕ) → FewestWithin (errorOf segs) (gapBelow segs) n p (runs segs) cuts
       → BestOfShare val p (reductionError (errorOf segs) n cuts) (map whole (rowsOf seg n cuts))

@@ -1,10 +1,10 @@
 -- What the argument for the best rows asks of values, labels and costs. A value is what a frame has, a label what a row
 -- holds. Here values are numbers, labels whole numbers and the cost is the squared difference; every other rule for row
 -- values is one more instance. Assumes nothing.
-use Prim.Native.Nat.{ℕ, zero, suc, _+_, _*_, _-_, _≤_, _<_}
-use mathlib.Core.Bool.{Bool, true, false}
+use Prim.Native.Nat.{ℕ, _*_, _-_, _≤_}
+use mathlib.Core.Bool.{Bool, true}
 use mathlib.Core.List.{List, [], _∷_, _++_, List·Memᴰ}
-use mathlib.Core.Option.{Option, none, some}
+use mathlib.Core.Option.{Option, some}
 use mathlib.Core.Path.{_≡_}
 use Rattle.model.specs.Common.{sumOf}
 use Rattle.model.specs.Spans.{Span, spanLength}

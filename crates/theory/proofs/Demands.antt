@@ -1,29 +1,31 @@
 -- The demands, proved. What each says stands in `specs/Demands.antt` of the crate `model`. Assumes nothing.
-use Prim.Native.Nat.{ℕ, zero, suc, _+_, _*_, _^_, _≤_, _<_}
-use mathlib.Core.Bool.{Bool, true, false}
+use Prim.Native.Nat.{ℕ, _≤_}
+use mathlib.Core.Bool.{true}
 use mathlib.Core.List.{List, [], _∷_, _++_, List·Memᴰ}
-use mathlib.Core.Option.{Option, none, some, Option·getD}
+use mathlib.Core.Option.{Option, none, some}
 use mathlib.Core.Path.{_≡_, refl, sym, ap, _∙_, subst}
 use native.Mathlib.Nat.{le-refl}
 use native.Mathlib.Omega.{arith}
 use lib.ListN.{length, drop}
 use borrow.Author.Tests.{leb-true}
-use Rattle.model.specs.Common.{isSome}
-use Rattle.model.specs.Spans.{Span, groupCount, frameCount}
-use Rattle.model.specs.Log.{records, value}
+use Rattle.model.specs.Spans.{Span}
+use Rattle.model.specs.Log.{records}
 use Rattle.model.specs.Segments.{segments}
 use Rattle.model.specs.Blocks.{segmentAt}
-use Rattle.model.specs.Split.{mostRows, countFor, Reduced, reduced, reducedTo, rowsOf, errorOf, gapBelow}
-use Rattle.model.specs.Reductions.{IsReduction, reductionError}
+use Rattle.model.specs.Split.{mostRows, countFor, reduced, reducedTo, gapBelow}
+use Rattle.model.specs.Reductions.{IsReduction}
 use Rattle.model.specs.Slot.{slotLength, slotBytes}
-use Rattle.model.specs.Questions.{Outcome, accepted, refused, ask, kindKnown, boundKnown, rowKnown, mostValue, logQuestions, orderQuestions, queryQuestions, enoughRows}
-use Rattle.model.specs.Calls.{Counts, logSegments, answerOf, queryOutcome, querySlot}
+use Rattle.model.specs.Questions.{Question, Outcome, accepted, ask, outcome, lent, boundKnown, logQuestions, orderQuestions, queryQuestions, enoughRows}
+use Rattle.model.specs.Calls.{Counts, logSegments, answerOf, countsOf, queryOutcome, querySlot}
+use Rattle.model.specs.Calls.{cutsWeighed, queryWeighed, boundOf, letterQuestions, letterOutcome, letterSlot, letterWeighed}
 use Rattle.model.specs.Demands.{AllPass, Demand1, Demand2, Demand3, Cut, Reduces, Storable, Reads, BestSlot}
+use Rattle.model.specs.Demands.{QueryPromise, LetterPromise}
 use Rattle.model.specs.declared.Bound.{Bound}
 use Rattle.model.specs.declared.Bound.the-variants.{Rows, Share}
 use Rattle.model.specs.declared.Query.{Query}
-use Rattle.theory.proofs.Refusals.{all-head, all-tail, all-lent, outcome-accepted, accepted-query, too-few}
+use Rattle.theory.proofs.Refusals.{all-head, all-tail, all-lent, lent-same, outcome-accepted, accepted-query, too-few}
 use Rattle.theory.proofs.Refusals as refusals
+use Rattle.theory.proofs.Tests.{cases}
 use Rattle.theory.proofs.SlotLaws.{round-trip, layout}
 use Rattle.theory.proofs.Frames.{segmentation}
 use Rattle.theory.proofs.Count.{segment-count}
@@ -31,7 +33,8 @@ use Rattle.theory.proofs.Conserved.{conserved}
 use Rattle.theory.proofs.Merging.{merging}
 use Rattle.theory.proofs.Bounds.{sound-records, logs-measured, reduction-error-le, most-error}
 use Rattle.theory.proofs.Stored.{rows-length, rows-known, rows-sorted}
-use Rattle.theory.proofs.Answer.{limitOf, answer-reduces, best-rows, some-count, count-le, too-few-rows}
+use Rattle.theory.proofs.Answer.{limitOf, answer-reduces, best-rows, some-count, count-le, too-few-rows, only-least}
+use Rattle.theory.proofs.Empty.{nothing-fits, empty-log}
 
 -- Demand 1
 pub demand1 : Demand1
@@ -96,7 +99,7 @@ module _ (q : Query) (log slot : List ℕ) (counts : Counts) (ok : queryOutcome 
   unfolding querySlot queryOutcome
   slot-written = all-lent _ _ _ (outcome-accepted _ _ counts ok .0)
 
-  storable : Storable (q .kind) ((answerOf q log) .error) ((answerOf q log) .rows)
+  pub storable : Storable (q .kind) ((answerOf q log) .error) ((answerOf q log) .rows)
   unfolding orderQuestions logSegments ask
   storable =
       let (room, order, enough, same) = accepted-query q log (length slot) counts ok in
@@ -149,6 +152,7 @@ demand2 =
           let (fits, order, enough, same) = accepted-query q log room counts ok in
           let found = answered q log enough in
           (found .cuts, found .cut, found .reduces, sym same);
+      emptyLog = empty-log;
       written = reads-back;
       roundTrip = round-trip;
       layout = layout;
@@ -164,4 +168,49 @@ demand3 =
           let (said, says) = too-few q log (length slot) order fits in
           let (refuses, none-fits) = too-few-rows (q .kind) (records log) (q .bound) in
           ((λ h. refuses (said h)), λ h. says (none-fits h));
+      uncovered = nothing-fits;
+      oneLeast = λ kind log. only-least kind (records log);
     }
+
+-- ---- what the calls promise beyond their equations
+
+-- the cuts weighed by a call that is asked these questions and would give these counts
+weighed-asked : (qs : List Question) (counts : Counts) → cutsWeighed (outcome qs counts) ≡ lent qs (counts .weighed) 0
+unfolding cutsWeighed outcome lent
+weighed-asked [] counts = refl
+weighed-asked (q ∷ qs) counts =
+    cases (q .passed) (λ p. rw p (weighed-asked qs counts)) (λ p. rw p)
+
+-- a call that answers a query so and leaves this slot keeps the query's promise
+pub query-promise : (q : Query) (log slot : List ℕ) (says : Outcome Counts) (after : List ℕ)
+    → says ≡ queryOutcome q log (length slot) → after ≡ querySlot q log slot → QueryPromise q log slot says after
+unfolding queryOutcome queryWeighed countsOf
+query-promise q log slot says after answers holds =
+    record {
+      weighed = ap cutsWeighed answers ∙ weighed-asked (queryQuestions q log (length slot)) (countsOf (answerOf q log));
+      best = λ counts e. rw holds (best q log slot counts (sym answers ∙ e));
+      tooFew = rw answers (demand3 .tooFew q log slot);
+    }
+
+-- and the same of a query by letter
+pub letter-promise : (kind letter x : ℕ) (log slot : List ℕ) (says : Outcome Counts) (after : List ℕ)
+    → says ≡ letterOutcome kind letter x log (length slot) → after ≡ letterSlot kind letter x log slot
+    → LetterPromise kind letter x log slot says after
+unfolding letterOutcome letterSlot letterWeighed
+letter-promise kind letter x log slot says after answers holds =
+    record { weighed = by (boundOf letter x) refl; named = named }
+  where
+    named : (bound : Bound) → boundOf letter x ≡ some bound
+        → QueryPromise (record { kind = kind; bound = bound }) log slot says after
+    named bound e =
+        query-promise (record { kind = kind; bound = bound }) log slot says after
+        (answers ∙ rw (e, letterOutcome)) (holds ∙ rw (e, letterSlot))
+
+    by : (o : Option Bound) → boundOf letter x ≡ o → cutsWeighed says ≡ letterWeighed kind letter x log (length slot)
+    by none e =
+        let none-given : Counts = record { rows = 0; error = 0; weighed = 0 } in
+        let asked : says ≡ outcome (letterQuestions kind (length slot)) none-given = answers ∙ rw (e, letterOutcome) in
+        rw (e, letterWeighed)
+        (ap cutsWeighed asked ∙ weighed-asked (letterQuestions kind (length slot)) none-given
+        ∙ lent-same (letterQuestions kind (length slot)) 0)
+    by (some bound) e = rw (e, letterWeighed) (named bound e .weighed)

@@ -1,4 +1,4 @@
--- The laws of the definitions, and the demands.
+-- The laws of the definitions, the demands, and wrong answers that the demands reject.
 pub mod Tests
 pub mod Sums
 pub mod Numbers
@@ -14,11 +14,17 @@ pub mod Choice
 pub mod Merging
 pub mod Converse
 pub mod Lists
+pub mod Asking
 pub mod Exchange
 pub mod Labels
 pub mod Cutting
 pub mod Bounds
 pub mod Stored
 pub mod Answer
+pub mod Empty
 pub mod Demands
 pub mod Conserved
+pub mod Pages
+pub mod Refutations
+pub mod RefutedReductions
+pub mod RefutedCalls

@@ -1,19 +1,18 @@
 -- The row value: the nearest whole number to a block's mean, the lower one at a half, lies between the block's least and
 -- greatest value, and no whole number, negative ones included, has a smaller squared error. Assumes nothing.
-use Prim.Native.Nat.{ℕ, zero, suc, _+_, _-_, _*_, _/_, _%_, _≤_, _<_, zero-le}
-use mathlib.Core.Bool.{Bool, true, false, cond}
+use Prim.Native.Nat.{ℕ, zero, suc, _+_, _-_, _*_, _%_, _≤_, _<_, zero-le}
 use mathlib.Core.List.{List, [], _∷_, List·Memᴰ, List·Memᴰ·head, List·Memᴰ·tail}
-use mathlib.Core.Logic.{_⊎_, inl, inr, ⊎-elim}
-use mathlib.Core.Path.{_≡_, refl, sym, ap, _∙_, subst}
+use mathlib.Core.Logic.{_⊎_, inl, inr}
+use mathlib.Core.Path.{_≡_, refl, ap}
 use native.Mathlib.Decide.{decLe}
 use native.Mathlib.Nat.{mul-le-mul-left, mul-le-mul-right, div-add-mod', mod-lt, lt-of-not-le}
 use native.Mathlib.Omega.{arith}
 use lib.Dec.{ltb, eqb}
-use lib.IntN.{ℤ, pos, negsuc, natAbs, _-ℤ_, _+ℤ_, negℤ, subℕ}
+use lib.IntN.{ℤ, pos, negsuc}
 use borrow.Author.Tests.{ltb-true, ltb-false, eqb-true}
 use Rattle.model.specs.Common.{sumOf}
 use Rattle.model.specs.Spans.{Span, spanLength}
-use Rattle.model.specs.Blocks.{Totals, empty, totalsOf, add, totals, nearest, rowValue, squared, errorWith, blockError}
+use Rattle.model.specs.Blocks.{empty, totalsOf, add, totals, nearest, rowValue, squared, errorWith, blockError}
 use Rattle.theory.proofs.Tests.{cases}
 use Rattle.theory.proofs.Cost.{Cost, costOf}
 

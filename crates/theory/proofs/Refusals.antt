@@ -2,9 +2,10 @@
 -- means that every question is passed. So the first demand. Assumes nothing.
 use Prim.Native.Nat.{ℕ, zero, suc, _+_, _≤_, _<_}
 use mathlib.Core.Bool.{true, false, cond}
-use mathlib.Core.List.{List, [], _∷_, _++_, List·Memᴰ, List·Memᴰ·head, List·Memᴰ·tail}
+use mathlib.Core.List.{List, [], _∷_, _++_, append-nil, List·Memᴰ, List·Memᴰ·head, List·Memᴰ·tail}
 use mathlib.Core.List.{List·Memᴰ·not-nil, List·Memᴰ·cases-cons, List·Memᴰ·append-cases, Memᴰ·append-left, Memᴰ·append-right}
 use mathlib.Core.Logic.{_⊎_, inl, inr, _↔_}
+use mathlib.Core.Option.{Option, none, some}
 use mathlib.Core.Path.{_≡_, refl, sym, ap, subst, _∙_}
 use native.Mathlib.Omega.{arith}
 use lib.Dec.{eqb}
@@ -13,14 +14,20 @@ use lib.ListN.{length}
 use Rattle.model.specs.Slot.{slotLength}
 use Rattle.model.specs.Questions.{Question, Outcome, refused, accepted, ask, askRoom, outcome, lent, each, enoughRows}
 use Rattle.model.specs.Questions.{orderQuestions, writeQuestions, segmentsQuestions, queryQuestions, slotQuestions}
-use Rattle.model.specs.Calls.{Counts, writeOutcome, writtenBuffer, segmentsOutcome, filledList, queryOutcome, querySlot, answerOf, countsOf, readOutcome, stepOutcome, stepNext, lookupOutcome}
+use Rattle.model.specs.Calls.{Counts, writeOutcome, writtenBuffer, segmentsOutcome, filledList, queryOutcome, querySlot, answerOf, countsOf, readOutcome, readListQuestions, readListOutcome, readList, stepOutcome, stepNext, lookupOutcome}
+use Rattle.model.specs.Calls.{boundOf, byLetterQuestions, letterOutcome, letterSlot}
 use Rattle.model.specs.Demands.{AllPass, FirstNo, Asks, Demand1}
+use Rattle.model.specs.declared.Bound.{Bound}
 use Rattle.model.specs.declared.Query.{Query}
 use Rattle.theory.proofs.Tests.{cases}
 
 -- an acceptance is no refusal
 pub accepted≢refused : {A : Type 0} {a : A} {n i : ℕ} → accepted a ≡ refused n i → ⊥
 accepted≢refused e = let z : _≡_ {A = ℕ} 0 1 = cc in omega arith
+
+-- two acceptances give the same if they are equal
+pub accepted-inj : {A : Type 0} {a b : A} → accepted a ≡ accepted b → a ≡ b
+accepted-inj e = cc
 
 -- ---- every question is passed
 
@@ -139,6 +146,13 @@ module _ {A : Type 0} where
   outcome-behind [] qs a all = refl
   outcome-behind (p ∷ ps) qs a all = rw (all-head p ps all) (outcome-behind ps qs a (all-tail p ps all))
 
+  -- the first 'no' refuses
+  pub first-no-outcome : (qs : List Question) (a : A) (n i : ℕ) → FirstNo qs n i → outcome qs a ≡ refused n i
+  unfolding outcome
+  first-no-outcome qs a n i no-at =
+      rw (no-at .parts, outcome-behind (no-at .before) (no-at .failed ∷ no-at .after) a (no-at .passed), no-at .denied)
+      (cc (no-at .numbered, no-at .indexed))
+
   -- and what was lent holds what it gives
   pub all-lent : (qs : List Question) (given kept : A) → AllPass qs → lent qs given kept ≡ given
   unfolding lent
@@ -153,6 +167,43 @@ module _ {A : Type 0} where
   refused-lent (q ∷ qs) b n i given kept e =
       cases (q .passed) (λ p. rw p (refused-lent qs b n i given kept (rw p at e))) (λ p. rw p)
 
+  -- a call that gives what it was lent changes nothing
+  pub lent-same : (qs : List Question) (a : A) → lent qs a a ≡ a
+  unfolding lent
+  lent-same [] a = refl
+  lent-same (q ∷ qs) a = cases (q .passed) (λ p. rw p (lent-same qs a)) (λ p. rw p)
+
+-- ---- questions asked in parts
+
+module _ {A B : Type 0} where
+  -- a refusal is the same whatever comes behind it and whatever would be given
+  pub refused-first : (ps qs : List Question) (a : A) (b : B) (n i : ℕ) → outcome ps a ≡ refused n i
+      → outcome (ps ++ qs) b ≡ refused n i
+  unfolding outcome
+  refused-first [] qs a b n i e = absurd (accepted≢refused e)
+  refused-first (p ∷ ps) qs a b n i e =
+      cases (p .passed) (λ t. rw t (refused-first ps qs a b n i (rw t at e))) (λ t. rw t (here (rw t at e)))
+    where
+      here : _≡_ {A = Outcome A} (refused (p .number) (p .index)) (refused n i)
+          → _≡_ {A = Outcome B} (refused (p .number) (p .index)) (refused n i)
+      here s = cc
+
+  pub refused-same : (qs : List Question) (a : A) (b : B) (n i : ℕ) → outcome qs a ≡ refused n i
+      → outcome qs b ≡ refused n i
+  refused-same qs a b n i e = rw append-nil at (refused-first qs [] a b n i e)
+
+  -- where all are passed, those behind them decide
+  pub passed-first : (ps qs : List Question) (a : A) (b : B) → outcome ps a ≡ accepted a
+      → outcome (ps ++ qs) b ≡ outcome qs b
+  passed-first ps qs a b e = outcome-behind ps qs b (outcome-accepted ps a a e .0)
+
+  -- and what is given is given
+  pub passed-same : (qs : List Question) (a : A) (b : B) → outcome qs a ≡ accepted a → outcome qs b ≡ accepted b
+  passed-same qs a b e = all-outcome qs b (outcome-accepted qs a a e .0)
+
+  pub passed-lent : (qs : List Question) (a : A) (given kept : B) → outcome qs a ≡ accepted a → lent qs given kept ≡ given
+  passed-lent qs a given kept e = all-lent qs given kept (outcome-accepted qs a a e .0)
+
 -- ---- the calls
 
 -- a call that answers by its questions, where a refusal keeps what was lent
@@ -164,15 +215,33 @@ asks qs a was is keeps =
       acceptance = λ b e. outcome-accepted qs a b e .0;
     }
 
+-- a query whose bound is named by a letter
+letter-asks : (kind letter x : ℕ) (log slot : List ℕ)
+    → Asks (byLetterQuestions kind letter x log (length slot)) (letterOutcome kind letter x log (length slot)) slot
+    (letterSlot kind letter x log slot)
+unfolding byLetterQuestions letterOutcome letterSlot queryOutcome querySlot
+letter-asks kind letter x log slot = by (boundOf letter x) refl
+  where
+    by : (o : Option Bound) → boundOf letter x ≡ o
+        → Asks (byLetterQuestions kind letter x log (length slot)) (letterOutcome kind letter x log (length slot)) slot
+        (letterSlot kind letter x log slot)
+    by none e =
+        rw (e, byLetterQuestions, letterOutcome, letterSlot) (asks _ _ _ _ (λ n i h. refl))
+    by (some bound) e =
+        rw (e, byLetterQuestions, letterOutcome, letterSlot)
+        (asks _ _ _ _ (λ n i. refused-lent (queryQuestions (record { kind = kind; bound = bound }) log (length slot)) _ n i _ _))
+
 -- the first demand
 pub demand1 : Demand1
-unfolding writeOutcome writtenBuffer segmentsOutcome filledList queryOutcome querySlot readOutcome stepOutcome stepNext lookupOutcome
+unfolding writeOutcome writtenBuffer segmentsOutcome filledList queryOutcome querySlot readOutcome readListOutcome readList stepOutcome stepNext lookupOutcome
 demand1 =
     record {
       write = λ r buffer. asks _ _ _ _ (λ n i. refused-lent (writeQuestions r (length buffer)) _ n i _ _);
       segments = λ kind log list. asks _ _ _ _ (λ n i. refused-lent (segmentsQuestions kind log (length list)) _ n i _ _);
       query = λ q log slot. asks _ _ _ _ (λ n i. refused-lent (queryQuestions q log (length slot)) _ n i _ _);
+      letter = letter-asks;
       read = λ slot. asks _ _ _ _ (λ n i e. refl);
+      readList = λ slot list. asks _ _ _ _ (λ n i. refused-lent (readListQuestions slot (length list)) _ n i _ _);
       step = λ slot number. asks _ _ _ _ (λ n i. refused-lent (slotQuestions slot) _ n i _ _);
       lookup = λ slot group frame. asks _ _ _ _ (λ n i e. refl);
     }

@@ -1,15 +1,13 @@
 -- Laws of finite sums. Assumes nothing.
 use Prim.Native.Nat.{ℕ, zero, suc, _+_, _*_, _-_, _≤_, _<_, zero-le}
-use mathlib.Core.Bool.{Bool, true, false, _&&_, cond}
+use mathlib.Core.Bool.{cond}
 use mathlib.Core.List.{List, [], _∷_, _++_, map, List·Memᴰ, List·Memᴰ·head, List·Memᴰ·tail}
 use mathlib.Core.Path.{_≡_, refl, sym, ap, ap₂, _∙_}
 use native.Mathlib.Omega.{arith}
 use native.Mathlib.Nat.{add-le-add, zero-add, add-zero, suc-add, add-suc, zero-mul, not-suc-le-zero, lt-of-not-le}
 use native.Mathlib.Decide.{ℕ-discrete, decLe}
-use lib.Dec.{leb, eqb}
-use borrow.Author.Tests.{leb-true, leb-false, eqb-true, eqb-false, le-leb, lt-leb, eq-eqb, ne-eqb}
 use Rattle.model.specs.Common.{sumFrom, sumOf}
-use Rattle.model.specs.Spans.{Span, spanLength, meets, holds}
+use Rattle.model.specs.Spans.{Span, spanLength, holds}
 use Rattle.model.specs.Fitting.{overFrames}
 use Rattle.theory.proofs.Tests.{true-holds, false-holds}
 

@@ -1,21 +1,20 @@
 -- The split table holds the least errors and the latest cuts: of all reductions of the first i segments to exactly k rows,
 -- the read-back is one of least error, and of these the latest. `err` may be any block error that does not fall as a block
 -- is widened, and `low` any function. Assumes nothing.
-use Prim.Native.Nat.{ℕ, zero, suc, _+_, _-_, _*_, _≤_, _<_, zero-le, min, max}
-use mathlib.Core.Bool.{Bool, true, false, _&&_, cond}
+use Prim.Native.Nat.{ℕ, zero, suc, _+_, _-_, _≤_, _<_, zero-le, max}
+use mathlib.Core.Bool.{true}
 use mathlib.Core.List.{List, [], _∷_}
-use mathlib.Core.Logic.{_⊎_, inl, inr}
+use mathlib.Core.Logic.{inl, inr}
 use mathlib.Core.Option.{Option, none, some}
 use mathlib.Core.Path.{_≡_, refl, sym, ap, _∙_, subst}
 use native.Mathlib.Decide.{ℕ-discrete, decLe}
 use native.Mathlib.Nat.{add-zero, zero-add, add-suc}
 use native.Mathlib.Omega.{arith}
-use lib.Dec.{ltb, leb, eqb}
+use lib.Dec.{ltb, eqb}
 use lib.ListN.{length}
-use borrow.Author.Tests.{ltb-true, ltb-false, leb-true, eqb-true, eqb-false, lt-ltb, le-ltb, le-leb, eq-eqb}
-use Rattle.model.specs.Common.{sumFrom}
-use Rattle.model.specs.Split.{Best, untried, plus, below, exceeds, weigh, scan, single, cell, least, weighed, cutsOf, fewest, firstThat}
-use Rattle.model.specs.Reductions.{IsReduction, reductionError, NotEarlier, IsLeast, IsLatest}
+use borrow.Author.Tests.{ltb-true, ltb-false, eqb-true, eq-eqb}
+use Rattle.model.specs.Split.{Best, untried, plus, below, exceeds, weigh, scan, single, cell, least, cutsOf}
+use Rattle.model.specs.Reductions.{IsReduction, reductionError, NotEarlier}
 use Rattle.theory.proofs.Tests.{cases, true≢false}
 pub use Rattle.theory.proofs.Tests.{none≢some, some-inj}
 

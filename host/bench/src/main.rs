@@ -2,8 +2,10 @@
 //!
 //!     bench [ROUNDS]
 //!
-//! Both get the same inputs in one run, in turns, and must give equal answers, slot bytes and
-//! weighed cuts. Prints the median time of a call for each, and the ratio.
+//! Queries are held to two plain versions: one works a block's error out for every candidate, the
+//! other keeps the errors. All get the same inputs in one run, in turns, and must give equal
+//! answers, slot bytes and weighed cuts. Prints the median time of a call for each, and the
+//! library's ratio to each plain version.
 
 #![forbid(unsafe_code)]
 
@@ -18,6 +20,9 @@ const TURN: Duration = Duration::from_micros(400);
 
 /// The segment counts.
 const SIZES: [usize; 5] = [6, 20, 60, 128, 255];
+
+/// The row limits.
+const LIMITS: [u16; 4] = [1, 2, 4, 64];
 
 fn record(group: u8, first: usize, last: usize, load: usize) -> Vec<u8> {
     let mut bytes = vec![0x4C, 0x44, group];
@@ -148,64 +153,85 @@ fn turn(calls: u32, call: &mut dyn FnMut()) -> f64 {
     start.elapsed().as_nanos() as f64 / f64::from(calls)
 }
 
-/// The medians of two calls that take turns, each first in every second round, and the median of
-/// the rounds' ratios: the two turns of a round are next to each other in time, so that a slow
-/// stretch of the machine touches both.
-fn measure(rounds: usize, library: &mut dyn FnMut(), plain: &mut dyn FnMut()) -> (f64, f64, f64) {
-    let once = turn(1, library).max(turn(1, plain)).max(1.0);
-    let calls = ((TURN.as_nanos() as f64 / once) as u32).clamp(1, 100_000);
-    let (mut ours, mut theirs) = (Vec::new(), Vec::new());
-    turn(calls, library);
-    turn(calls, plain);
-    for round in 0..rounds {
-        if round % 2 == 0 {
-            ours.push(turn(calls, library));
-            theirs.push(turn(calls, plain));
-        } else {
-            theirs.push(turn(calls, plain));
-            ours.push(turn(calls, library));
-        }
-    }
-    let mut ratios: Vec<f64> = ours.iter().zip(&theirs).map(|(a, b)| a / b).collect();
-    (median(&mut ours), median(&mut theirs), median(&mut ratios))
-}
-
-/// The ratios printed, for the last line.
-struct Report {
-    rounds: usize,
+/// The times of the versions of one call: the median of each, and for each but the first the
+/// median of the rounds' ratios, first version to it.
+struct Times {
+    medians: Vec<f64>,
     ratios: Vec<f64>,
 }
 
-impl Report {
-    fn line(
-        &mut self,
-        what: &str,
-        numbers: &str,
-        library: &mut dyn FnMut(),
-        plain: &mut dyn FnMut(),
-    ) {
-        let (ours, theirs, ratio) = measure(self.rounds, library, plain);
-        self.ratios.push(ratio);
-        println!(
-            "{what:<38} {numbers:>32} {:>11.3} {:>11.3} {ratio:>6.2}",
-            ours / 1000.0,
-            theirs / 1000.0
-        );
+/// Times versions of one call that take turns, another one first in every round. The turns of a
+/// round are next to each other in time, so that a slow stretch of the machine touches all.
+fn measure(rounds: usize, versions: &mut [&mut dyn FnMut()]) -> Times {
+    let once = versions
+        .iter_mut()
+        .map(|call| turn(1, call))
+        .fold(1.0, f64::max);
+    let calls = ((TURN.as_nanos() as f64 / once) as u32).clamp(1, 100_000);
+    let count = versions.len();
+    let mut times = vec![Vec::new(); count];
+    for call in versions.iter_mut() {
+        turn(calls, call);
+    }
+    for round in 0..rounds {
+        for place in 0..count {
+            let version = (round + place) % count;
+            times[version].push(turn(calls, versions[version]));
+        }
+    }
+    let ratios = times[1..]
+        .iter()
+        .map(|other| {
+            let mut ratios: Vec<f64> = times[0].iter().zip(other).map(|(a, b)| a / b).collect();
+            median(&mut ratios)
+        })
+        .collect();
+    Times {
+        medians: times.iter_mut().map(|times| median(times)).collect(),
+        ratios,
     }
 }
 
-fn head(numbers: &str) {
-    println!(
-        "\n{:<38} {numbers:>32} {:>11} {:>11} {:>6}",
-        "", "library µs", "plain µs", "ratio"
-    );
+/// The plain versions that the library is held to, in the order of their columns.
+const PLAIN: [&str; 2] = ["plain", "keeping"];
+
+/// The ratios printed, by plain version, for the last lines.
+struct Report {
+    rounds: usize,
+    ratios: [Vec<f64>; PLAIN.len()],
 }
 
-fn query_lines(report: &mut Report, shape: &Shape, n: usize, log: &[u8], rule: u8, bound: u16) {
+impl Report {
+    /// Prints a row; the library is the first of the versions.
+    fn line(&mut self, what: &str, numbers: &str, versions: &mut [&mut dyn FnMut()]) {
+        let times = measure(self.rounds, versions);
+        print!("{what:<32} {numbers:>29}");
+        for median in &times.medians {
+            print!(" {:>10.3}", median / 1000.0);
+        }
+        for (ratio, printed) in times.ratios.iter().zip(&mut self.ratios) {
+            printed.push(*ratio);
+            print!(" {ratio:>9.2}");
+        }
+        println!();
+    }
+}
+
+/// The head of a table in which the library is held to so many plain versions.
+fn head(numbers: &str, plain: usize) {
+    print!("\n{:<32} {numbers:>29} {:>10}", "", "library µs");
+    for name in &PLAIN[..plain] {
+        print!(" {:>10}", format!("{name} µs"));
+    }
+    for name in &PLAIN[..plain] {
+        print!(" {:>9}", format!("/ {name}"));
+    }
+    println!();
+}
+
+fn query_line(report: &mut Report, shape: &Shape, n: usize, log: &[u8], rule: u8, bound: u16) {
     let mut slot = [0; 768];
-    let mut other = [0; 768];
     let answer = c::query(0, rule, bound, log, &mut slot);
-    let expected = plain::query(black_box(0), rule, bound, log, &mut other);
     let found = plain::QueryAnswer {
         question: answer.question,
         index: answer.index,
@@ -213,23 +239,37 @@ fn query_lines(report: &mut Report, shape: &Shape, n: usize, log: &[u8], rule: u
         error: answer.error,
         weighed: answer.weighed,
     };
-    assert_eq!(found, expected, "{} n={n}", shape.name);
-    assert_eq!(slot, other, "{} n={n}", shape.name);
+    let mut kept = plain::Kept::new();
+    let (mut one, mut two) = ([0; 768], [0; 768]);
+    let anew = plain::query(&mut plain::Anew, black_box(0), rule, bound, log, &mut one);
+    let keeping = plain::query(&mut kept, black_box(0), rule, bound, log, &mut two);
+    assert_eq!(found, anew, "{} n={n}", shape.name);
+    assert_eq!(found, keeping, "{} n={n}", shape.name);
+    assert_eq!(slot, one, "{} n={n}", shape.name);
+    assert_eq!(slot, two, "{} n={n}", shape.name);
     let what = if rule == c::ROWS { "limit" } else { "share" };
+    let input = || black_box((0, rule, bound, log));
     report.line(
         &format!("query, {}", shape.name),
         &format!(
             "{n:>4} {what} {bound:>4} {:>4} {:>9}",
             answer.rows, answer.weighed
         ),
-        &mut || {
-            let (kind, rule, bound) = black_box((0, rule, bound));
-            black_box(c::query(kind, rule, bound, black_box(log), &mut slot));
-        },
-        &mut || {
-            let (kind, rule, bound) = black_box((0, rule, bound));
-            black_box(plain::query(kind, rule, bound, black_box(log), &mut other));
-        },
+        &mut [
+            &mut || {
+                let (kind, rule, bound, log) = input();
+                black_box(c::query(kind, rule, bound, log, &mut slot));
+            },
+            &mut || {
+                let (kind, rule, bound, log) = input();
+                let errors = &mut plain::Anew;
+                black_box(plain::query(errors, kind, rule, bound, log, &mut one));
+            },
+            &mut || {
+                let (kind, rule, bound, log) = input();
+                black_box(plain::query(&mut kept, kind, rule, bound, log, &mut two));
+            },
+        ],
     );
 }
 
@@ -249,6 +289,69 @@ fn count_segments(log: &[u8]) -> usize {
     answer.count
 }
 
+/// Read and lookup on a slot of so many rows.
+fn slot_lines(report: &mut Report, wanted: usize) {
+    let log = random(wanted);
+    let mut slot = [0; 768];
+    let rows = c::query(0, c::ROWS, 64, &log, &mut slot).rows;
+    let slot = slot;
+    let answer = c::read(&slot);
+    let expected = plain::ReadAnswer {
+        question: answer.question,
+        index: answer.index,
+        kind: answer.kind,
+        rows: answer.rows,
+        error: answer.error,
+    };
+    assert_eq!(plain::read(&slot), expected);
+    report.line(
+        "read",
+        &rows.to_string(),
+        &mut [
+            &mut || {
+                black_box(c::read(black_box(&slot)));
+            },
+            &mut || {
+                black_box(plain::read(black_box(&slot)));
+            },
+        ],
+    );
+    let last = pacer::row_at(&slot, rows.saturating_sub(1))
+        .expect("an accepted slot")
+        .map_or(0, |row| row.last);
+    for (what, frame) in [("last row", last), ("uncovered", 65_535)] {
+        let answer = c::lookup(&slot, 0, frame);
+        let value = (answer.covered == 1).then_some(answer.value);
+        assert_eq!(
+            (answer.question, answer.index, value),
+            plain::lookup(&slot, black_box(0), frame)
+        );
+        let asked = || black_box((&slot, 0, frame));
+        report.line(
+            &format!("lookup, {what}"),
+            &rows.to_string(),
+            &mut [
+                &mut || {
+                    let (slot, group, frame) = asked();
+                    black_box(c::lookup(slot, group, frame));
+                },
+                &mut || {
+                    let (slot, group, frame) = asked();
+                    black_box(plain::lookup(slot, group, frame));
+                },
+            ],
+        );
+    }
+}
+
+/// The smallest of some shares that 64 rows meet.
+fn share_met(log: &[u8]) -> Option<u16> {
+    let mut slot = [0; 768];
+    [10, 50, 100, 200, 400, 600, 700, 800, 900, 1000]
+        .into_iter()
+        .find(|p| c::query(0, c::SHARE, *p, log, &mut slot).question == 0)
+}
+
 fn main() {
     let rounds = std::env::args()
         .nth(1)
@@ -256,34 +359,35 @@ fn main() {
         .unwrap_or(51);
     let mut report = Report {
         rounds,
-        ratios: Vec::new(),
+        ratios: Default::default(),
     };
-    println!(
-        "Proved library (as `rt staticlib` built it) against the same algorithm in plain safe Rust"
-    );
+    println!("The proved library (as `rt staticlib` built it) against the same algorithm in plain safe Rust");
     println!("(built for release), in one process: the same inputs, in turns, {rounds} rounds.");
-    println!("Times are medians; the ratio is the median over the rounds, below 1 if the library is faster.");
-    println!("Buffers (log, slot, list) are reused from call to call and not cleared in between.");
-    println!("Answers, slot bytes and weighed cuts are compared first and are equal.");
+    println!("'plain' works a block's error out for every candidate; 'keeping' works each out once per query,");
+    println!("into a list that is reused from query to query and not cleared.");
+    println!("Times are medians; a ratio is library / plain version, the median over the rounds, below 1 if");
+    println!("the library is faster. Buffers (log, slot, list) are reused from call to call and not cleared.");
+    println!("Answers, slot bytes and weighed cuts are compared first and are equal. A limit below the count");
+    println!("of runs, which is refused, has no row.");
 
-    head("n bound          rows   weighed");
+    head("n bound          rows   weighed", 2);
     for shape in &SHAPES {
         for wanted in SIZES {
             let log = (shape.log)(wanted);
             let n = count_segments(&log);
-            query_lines(&mut report, shape, n, &log, c::ROWS, 64);
-            // The smallest of these shares that 64 rows meet.
-            let mut slot = [0; 768];
-            let share = [10, 50, 100, 200, 400, 600, 700, 800, 900, 1000]
-                .into_iter()
-                .find(|p| c::query(0, c::SHARE, *p, &log, &mut slot).question == 0);
-            if let Some(share) = share {
-                query_lines(&mut report, shape, n, &log, c::SHARE, share);
+            for limit in LIMITS {
+                let mut slot = [0; 768];
+                if c::query(0, c::ROWS, limit, &log, &mut slot).question == 0 {
+                    query_line(&mut report, shape, n, &log, c::ROWS, limit);
+                }
+            }
+            if let Some(share) = share_met(&log) {
+                query_line(&mut report, shape, n, &log, c::SHARE, share);
             }
         }
     }
 
-    head("n");
+    head("n", 1);
     for shape in &SHAPES {
         for wanted in SIZES {
             let log = (shape.log)(wanted);
@@ -293,81 +397,30 @@ fn main() {
             report.line(
                 &format!("segments, {}", shape.name),
                 &n.to_string(),
-                &mut || {
-                    black_box(c::segments(black_box(&log), black_box(0), &mut list));
-                },
-                &mut || {
-                    black_box(plain::segments(black_box(&log), black_box(0), &mut other));
-                },
+                &mut [
+                    &mut || {
+                        black_box(c::segments(black_box(&log), black_box(0), &mut list));
+                    },
+                    &mut || {
+                        black_box(plain::segments(black_box(&log), black_box(0), &mut other));
+                    },
+                ],
             );
         }
     }
 
-    head("rows");
+    head("rows", 1);
     for wanted in [0, 6, 20, 64] {
-        let log = random(wanted);
-        let mut slot = [0; 768];
-        let rows = c::query(0, c::ROWS, 64, &log, &mut slot).rows;
-        let slot = slot;
-        let answer = c::read(&slot);
-        let expected = plain::read(&slot);
-        assert_eq!(
-            (
-                answer.question,
-                answer.index,
-                answer.kind,
-                answer.rows,
-                answer.error
-            ),
-            (
-                expected.question,
-                expected.index,
-                expected.kind,
-                expected.rows,
-                expected.error
-            )
-        );
-        report.line(
-            "read",
-            &rows.to_string(),
-            &mut || {
-                black_box(c::read(black_box(&slot)));
-            },
-            &mut || {
-                black_box(plain::read(black_box(&slot)));
-            },
-        );
-        let last = pacer::row_at(&slot, rows.saturating_sub(1))
-            .expect("an accepted slot")
-            .map_or(0, |row| row.last);
-        for (what, frame) in [("last row", last), ("uncovered", 65_535)] {
-            let answer = c::lookup(&slot, 0, frame);
-            let value = (answer.covered == 1).then_some(answer.value);
-            assert_eq!(
-                (answer.question, answer.index, value),
-                plain::lookup(&slot, black_box(0), frame)
-            );
-            report.line(
-                &format!("lookup, {what}"),
-                &rows.to_string(),
-                &mut || {
-                    black_box(c::lookup(black_box(&slot), black_box(0), black_box(frame)));
-                },
-                &mut || {
-                    black_box(plain::lookup(
-                        black_box(&slot),
-                        black_box(0),
-                        black_box(frame),
-                    ));
-                },
-            );
-        }
+        slot_lines(&mut report, wanted);
     }
 
-    let above = report.ratios.iter().filter(|ratio| **ratio > 1.0).count();
-    let highest = report.ratios.iter().copied().fold(0.0, f64::max);
-    println!(
-        "\n{} rows, {above} with a ratio above 1.00, the highest {highest:.2}",
-        report.ratios.len()
-    );
+    println!();
+    for (name, ratios) in PLAIN.iter().zip(&report.ratios) {
+        let above = ratios.iter().filter(|ratio| **ratio > 1.0).count();
+        let highest = ratios.iter().copied().fold(0.0, f64::max);
+        println!(
+            "against '{name}': {} rows, {above} with a ratio above 1.00, the highest {highest:.2}",
+            ratios.len()
+        );
+    }
 }

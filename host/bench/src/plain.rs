@@ -3,6 +3,9 @@
 //! Segments are found from event to event, the split table is filled with incremental block
 //! totals and left early, and the same questions are asked. The table has the paper's 64 times
 //! 256 entries, all 'no cut' at first.
+//!
+//! There are two versions of the query. They differ in where a block's error comes from: [`Anew`]
+//! works it out whenever a candidate asks for it, [`Kept`] works each out once per query.
 
 /// A query's answer, with question 0 if it is accepted.
 #[derive(Clone, Copy, Debug, Default, PartialEq, Eq)]
@@ -37,7 +40,7 @@ pub struct Segment {
 
 /// Length, sum of length × value and sum of length × value² of a block.
 #[derive(Clone, Copy, Default)]
-struct Totals {
+pub struct Totals {
     length: u64,
     sum: u64,
     squares: u64,
@@ -184,12 +187,82 @@ pub fn segments(log: &[u8], kind: u8, list: &mut [Segment]) -> (u8, usize, usize
     (0, 0, find_segments(log, kind, places))
 }
 
+/// Where a query's block errors come from.
+pub trait BlockErrors {
+    /// Begins a query over segments with these totals; `gap` has the last gap below i at place i.
+    fn begin(&mut self, totals: &[Totals], gap: &[u8; 256]);
+
+    /// The errors of the blocks that end with segment i, from segment i alone to those from
+    /// segment `low` + 1 on.
+    fn ending_at(&self, totals: &[Totals], low: usize, i: usize) -> impl Iterator<Item = u64>;
+}
+
+/// The errors of the blocks that end with the last of these segments, the shortest block first.
+fn widening(totals: &[Totals]) -> impl ExactSizeIterator<Item = u64> + '_ {
+    let mut block = Totals::default();
+    totals.iter().rev().map(move |total| {
+        block.add(total);
+        block.error()
+    })
+}
+
+/// Works a block's error out whenever it is asked for.
+pub struct Anew;
+
+impl BlockErrors for Anew {
+    fn begin(&mut self, _: &[Totals], _: &[u8; 256]) {}
+
+    fn ending_at(&self, totals: &[Totals], low: usize, i: usize) -> impl Iterator<Item = u64> {
+        widening(&totals[low..i])
+    }
+}
+
+/// Works the error of every block that crosses no gap out once per query. The list is the
+/// caller's and serves for many queries: each begins with the empty list and its old memory, so
+/// that nothing is cleared and nothing allocated once the list has grown.
+pub struct Kept {
+    errors: Vec<u64>,
+    /// The place of the first error of the blocks that end with segment i, at place i.
+    start: [usize; 256],
+}
+
+impl Kept {
+    pub fn new() -> Self {
+        Kept {
+            errors: Vec::new(),
+            start: [0; 256],
+        }
+    }
+}
+
+impl BlockErrors for Kept {
+    fn begin(&mut self, totals: &[Totals], gap: &[u8; 256]) {
+        self.errors.clear();
+        for i in 1..=totals.len() {
+            self.start[i] = self.errors.len();
+            self.errors
+                .extend(widening(&totals[usize::from(gap[i])..i]));
+        }
+    }
+
+    fn ending_at(&self, _: &[Totals], low: usize, i: usize) -> impl Iterator<Item = u64> {
+        self.errors[self.start[i]..][..i - low].iter().copied()
+    }
+}
+
 /// Above every error; the sum of two does not overflow.
 const NONE: u64 = 1 << 62;
 
 /// The query call.
-pub fn query(kind: u8, rule: u8, bound: u16, log: &[u8], slot: &mut [u8]) -> QueryAnswer {
-    match try_query(kind, rule, bound, log, slot) {
+pub fn query(
+    blocks: &mut impl BlockErrors,
+    kind: u8,
+    rule: u8,
+    bound: u16,
+    log: &[u8],
+    slot: &mut [u8],
+) -> QueryAnswer {
+    match try_query(blocks, kind, rule, bound, log, slot) {
         Ok(answer) => answer,
         Err((question, index)) => QueryAnswer {
             question,
@@ -200,6 +273,7 @@ pub fn query(kind: u8, rule: u8, bound: u16, log: &[u8], slot: &mut [u8]) -> Que
 }
 
 fn try_query(
+    blocks: &mut impl BlockErrors,
     kind: u8,
     rule: u8,
     bound: u16,
@@ -234,7 +308,7 @@ fn try_query(
         return Err((10, 0));
     }
 
-    let mut table = [[0u8; 256]; 64];
+    let mut table = [0u8; 64 * 256];
     // E(k - 1, i) and E(k, i), at place i; the two change places from row to row.
     let mut before = &mut [NONE; 256];
     let mut now = &mut [NONE; 256];
@@ -255,21 +329,22 @@ fn try_query(
         errors[1] = before[n];
         met = m == 1 && errors[1] * 1000 <= u64::from(bound) * errors[1];
     }
+    if top > 1 && (limited || !met) {
+        blocks.begin(&totals, &gap);
+    }
     for k in 2..=top {
         if met && !limited {
             break;
         }
         now[k - 1] = NONE;
-        let cuts = &mut table[k - 1];
+        let cuts = &mut table[(k - 1) * 256..][..256];
         for i in k..=n {
             let low = usize::from(gap[i]).max(k - 1);
-            let mut block = Totals::default();
             let (mut best, mut cut) = (NONE, 0);
             let mut left = i - low;
-            for (total, front) in totals[low..i].iter().zip(&before[low..i]).rev() {
+            let fronts = before[low..i].iter().rev();
+            for (error, front) in blocks.ending_at(&totals, low, i).zip(fronts) {
                 left -= 1;
-                block.add(total);
-                let error = block.error();
                 if front + error < best {
                     best = front + error;
                     cut = low + left;
@@ -304,7 +379,7 @@ fn try_query(
     slot[4..12].copy_from_slice(&error.to_le_bytes());
     let mut end = n;
     for k in (1..=rows).rev() {
-        let start = usize::from(table[k - 1][end]);
+        let start = usize::from(table[(k - 1) * 256 + end]);
         let mut block = Totals::default();
         for total in &totals[start..end] {
             block.add(total);

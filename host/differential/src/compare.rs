@@ -3,7 +3,7 @@
 use crate::inputs;
 use crate::random::Random;
 use pacer::c;
-use reference::{No, Stretch};
+use reference::{Contents, No, Stretch};
 use std::fmt::Debug;
 
 /// How often each question was the first 'no', and 0 for accepted, over all calls.
@@ -70,6 +70,7 @@ fn same_places<T: PartialEq + Debug>(
 pub fn stretches(profile: &pacer::Profile) -> Vec<Stretch> {
     profile
         .rows()
+        .iter()
         .map(|row| Stretch {
             group: row.group,
             first: row.first,
@@ -81,6 +82,15 @@ pub fn stretches(profile: &pacer::Profile) -> Vec<Stretch> {
 
 fn segment_of(stretch: &Stretch) -> c::Segment {
     c::Segment {
+        group: stretch.group,
+        first: stretch.first,
+        last: stretch.last,
+        value: stretch.value,
+    }
+}
+
+fn row_of(stretch: &Stretch) -> c::Row {
+    c::Row {
         group: stretch.group,
         first: stretch.first,
         last: stretch.last,
@@ -174,17 +184,39 @@ fn segments(
     same_places("list of segments", &list, &after)?;
     seen.segments[usize::from(question)] += 1;
 
-    let found = outcome.unwrap_or_default();
-    if kind == 0 && !found.is_empty() {
-        let by_segment: u64 = found.iter().map(|s| s.length() * u64::from(s.value)).sum();
+    if kind == 0 && answer.question == 0 {
+        // The library's own segments against the records.
+        let by_segment: u64 = list[..answer.count]
+            .iter()
+            .map(|s| frames(s.first, s.last) * u64::from(s.value))
+            .sum();
         let by_record: u64 = reference::records(log)
             .iter()
-            .map(|r| (u64::from(r.last) - u64::from(r.first) + 1) * u64::from(r.load))
+            .map(|r| frames(r.first, r.last) * u64::from(r.load))
             .sum();
         same("length times load", by_segment, by_record)?;
     }
+    let found = outcome.unwrap_or_default();
     seen.most_segments = seen.most_segments.max(found.len());
     Ok(found)
+}
+
+/// The number of frames from first to last, both included.
+fn frames(first: u16, last: u16) -> u64 {
+    u64::from(last) - u64::from(first) + 1
+}
+
+/// The paper's bound of the cuts that the library may weigh, from its own answers: K is the
+/// smaller of limit and n, and with a share the count of rows.
+fn most_weighed(kind: u8, rule: u8, bound: u16, log: &[u8], answer: &c::QueryAnswer) -> u64 {
+    let mut list = [c::Segment::default(); pacer::SEGMENT_PLACES];
+    let n = c::segments(log, kind, &mut list).count as u64;
+    let tried = if rule == c::ROWS {
+        u64::from(bound).min(n)
+    } else {
+        answer.rows as u64
+    };
+    tried.saturating_sub(1) * n * n.saturating_sub(1) / 2
 }
 
 /// The query call. Gives the slot that was lent, as the call left it.
@@ -220,11 +252,12 @@ fn query(
             after.extend(&before[768..]);
             same_places("slot", &slot, &after)?;
 
-            // The rows read back, and the paper's bound of the cuts weighed.
-            let contents = reference::read(&slot).map_err(|no| format!("slot refused: {no:?}"))?;
-            same("rows read back", contents.rows.len(), reduction.rows.len())?;
-            let n = reference::segments(log, kind, 255).map_or(0, |segments| segments.len() as u64);
-            let most = (reduction.tried as u64).saturating_sub(1) * n * n.saturating_sub(1) / 2;
+            // The library reads its own slot back to the same kind, error and rows.
+            let profile = pacer::read(&slot).map_err(|refusal| refusal.to_string())?;
+            same("kind read back", profile.kind().0, kind)?;
+            same("error read back", profile.error(), reduction.error)?;
+            same_places("rows read back", &stretches(&profile), &reduction.rows)?;
+            let most = most_weighed(kind, rule, bound, log, &answer);
             same("cuts within the bound", answer.weighed <= most, true)?;
             seen.most_rows = seen.most_rows.max(reduction.rows.len());
             seen.most_weighed = seen.most_weighed.max(reduction.weighed);
@@ -247,7 +280,71 @@ fn query(
     Ok(slot)
 }
 
-/// The calls on a slot: read, row_at for every number, and some lookups.
+/// The reading of a slot with its rows into a lent list.
+fn read_rows(
+    random: &mut Random,
+    slot: &[u8],
+    expected: &Result<Contents, No>,
+) -> Result<(), String> {
+    let places = inputs::length(random, 64);
+    let before: Vec<c::Row> = (0..places)
+        .map(|place| c::Row {
+            group: 9,
+            first: place as u16,
+            last: 1,
+            value: 7,
+        })
+        .collect();
+    let mut list = before.clone();
+    let answer = c::read_rows(slot, &mut list);
+    let short = No {
+        question: 1,
+        index: 0,
+    };
+    let outcome = if places < 64 {
+        Err(&short)
+    } else {
+        expected.as_ref()
+    };
+    match outcome {
+        Ok(contents) => {
+            same(
+                "read_rows",
+                answer,
+                c::ReadAnswer {
+                    question: 0,
+                    index: 0,
+                    kind: contents.kind,
+                    rows: contents.rows.len(),
+                    error: contents.error,
+                },
+            )?;
+            let rows: Vec<c::Row> = contents.rows.iter().map(row_of).collect();
+            same_places("rows in the list", &list[..rows.len()], &rows)?;
+            same_places(
+                "places behind the rows",
+                &list[rows.len()..],
+                &before[rows.len()..],
+            )
+        }
+        Err(no) => {
+            same(
+                "read_rows",
+                answer,
+                c::ReadAnswer {
+                    question: no.question,
+                    index: no.index,
+                    kind: 0,
+                    rows: 0,
+                    error: 0,
+                },
+            )?;
+            same_places("list after a refusal", &list, &before)
+        }
+    }
+}
+
+/// The calls on a slot: read, read_rows, row_at for every number, and some lookups.
 fn slot_calls(random: &mut Random, slot: &[u8], seen: &mut Seen) -> Result<(), String> {
     let expected = reference::read(slot);
     let (question, index) = number(&expected);
@@ -268,16 +365,14 @@ fn slot_calls(random: &mut Random, slot: &[u8], seen: &mut Seen) -> Result<(), S
         },
     )?;
     if expected.is_ok() {
-        // An accepted slot is byte for byte its layout.
-        same_places(
-            "layout",
-            &slot[..768],
-            &reference::layout(kind, error, &rows),
-        )?;
-        // The safe walk gives the same rows.
+        // A slot that the library accepts is byte for byte the layout of what it reads.
         let profile = pacer::read(slot).map_err(|refusal| refusal.to_string())?;
-        same_places("rows", &stretches(&profile), &rows)?;
+        let read = stretches(&profile);
+        let layout = reference::layout(profile.kind().0, profile.error(), &read);
+        same_places("layout", &layout, &slot[..768])?;
+        same_places("rows", &read, &rows)?;
     }
+    read_rows(random, slot, &expected)?;
     let far = [64, 65, 1 << 16, usize::MAX, random.next() as usize];
     for number in (0..rows.len() + 2).chain(far) {
         let row = rows.get(number);

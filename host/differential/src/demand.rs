@@ -114,8 +114,9 @@ pub fn run_small(random: &mut Random, tried: &mut Tried) -> Result<(), String> {
     let least = brute::least_by_cuttings(&frames);
     let greatest = frames.iter().map(|f| f.2).max().unwrap_or(0);
     if frames.len() <= 5 && greatest <= 4 {
-        // Every combination of numbers as well.
-        same("lists", brute::least_by_lists(&frames), least.clone())?;
+        // A test of the measure and not of the library: the least errors by cuttings with the best
+        // number each are those by every combination of numbers.
+        assert_eq!(brute::least_by_lists(&frames), least, "{records:?}");
     }
     let context = |why| format!("records {records:?}, kind {kind}: {why}");
     for c in 0..=frames.len() as u16 + 1 {

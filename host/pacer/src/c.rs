@@ -38,7 +38,7 @@ pub struct QueryAnswer {
     pub weighed: u64,
 }
 
-/// The answer of [`read`].
+/// The answer of [`read`] and [`read_rows`].
 #[repr(C)]
 #[derive(Clone, Copy, Debug, PartialEq, Eq)]
 pub struct ReadAnswer {
@@ -90,6 +90,23 @@ pub struct Segment {
     pub value: u32,
 }
 
+/// A row of a slot: some consecutive frames of a group and the value that stands for them.
+///
+/// The layout is that of the C interface, so that a list of rows can be lent to the library as it
+/// is.
+#[repr(C)]
+#[derive(Clone, Copy, Debug, Default, PartialEq, Eq, Hash)]
+pub struct Row {
+    /// The group, 0 to 7.
+    pub group: u8,
+    /// The first frame.
+    pub first: u16,
+    /// The last frame, included.
+    pub last: u16,
+    /// The whole number nearest to the mean of the frames' values, the lower one at a half.
+    pub value: u32,
+}
+
 mod declared {
     use super::*;
 
@@ -119,6 +136,12 @@ mod declared {
             places: usize,
         ) -> SegmentsAnswer;
         pub fn pacer_read(slot: *const u8, length: usize) -> ReadAnswer;
+        pub fn pacer_read_rows(
+            slot: *const u8,
+            length: usize,
+            list: *mut Row,
+            places: usize,
+        ) -> ReadAnswer;
         pub fn pacer_row_at(slot: *const u8, length: usize, number: usize) -> StepAnswer;
         pub fn pacer_lookup(slot: *const u8, length: usize, group: u8, frame: u16) -> LookupAnswer;
     }
@@ -172,6 +195,14 @@ pub fn segments(log: &[u8], kind: u8, list: &mut [Segment]) -> SegmentsAnswer {
 pub fn read(slot: &[u8]) -> ReadAnswer {
     // SAFETY: pointer and length are those of a slice.
     unsafe { declared::pacer_read(slot.as_ptr(), slot.len()) }
+}
+
+/// Calls `pacer_read_rows`.
+#[inline]
+pub fn read_rows(slot: &[u8], list: &mut [Row]) -> ReadAnswer {
+    // SAFETY: pointers and lengths are those of a shared and an exclusive slice, which do not
+    // overlap; every content of a row's fields is valid.
+    unsafe { declared::pacer_read_rows(slot.as_ptr(), slot.len(), list.as_mut_ptr(), list.len()) }
 }
 
 /// Calls `pacer_row_at`.

@@ -24,9 +24,8 @@
 //! let profile = pacer::read(&slot)?;
 //! assert_eq!(profile.kind(), Kind::SUM);
 //! assert_eq!(profile.error(), 11_280);
-//! let rows: Vec<Row> = profile.rows().collect();
 //! assert_eq!(
-//!     rows,
+//!     profile.rows(),
 //!     [
 //!         Row { group: 0, first: 0, last: 1, value: 100 },
 //!         Row { group: 0, first: 2, last: 6, value: 242 },
@@ -49,13 +48,12 @@
 
 use std::error::Error;
 use std::fmt;
-use std::iter::FusedIterator;
 
 #[allow(unsafe_code)]
 #[allow(missing_docs)]
 pub mod c;
 
-pub use c::Segment;
+pub use c::{Row, Segment};
 
 /// The length of a record in a log, in bytes.
 pub const RECORD_BYTES: usize = 9;
@@ -65,7 +63,7 @@ pub const RECORDS: usize = 128;
 pub const SEGMENT_PLACES: usize = 255;
 /// The length of a slot, in bytes.
 pub const SLOT_BYTES: usize = 768;
-/// The greatest number of rows in a slot.
+/// The least number of places in a list lent for rows, and the greatest number of rows in a slot.
 pub const ROWS: usize = 64;
 
 /// What a frame's value is, over the records of its group that contain it.
@@ -128,19 +126,6 @@ pub struct Reduction {
     pub weighed: u64,
 }
 
-/// A row of a slot: some consecutive frames of a group and the value that stands for them.
-#[derive(Clone, Copy, Debug, PartialEq, Eq, Hash)]
-pub struct Row {
-    /// The group, 0 to 7.
-    pub group: u8,
-    /// The first frame.
-    pub first: u16,
-    /// The last frame, included.
-    pub last: u16,
-    /// The whole number nearest to the mean of the frames' values, the lower one at a half.
-    pub value: u32,
-}
-
 /// The first question that got 'no'.
 ///
 /// ```
@@ -170,7 +155,7 @@ impl Refusal {
     /// ```
     pub fn words(&self) -> &'static str {
         match self.question {
-            1 => "Is the lent buffer or list long enough (slot 768, segments 255, record 9)?",
+            1 => "Is the lent buffer or list long enough (slot 768, segments 255, rows 64, record 9)?",
             2 => "Is the kind 0 to 3?",
             3 => "Is c at most 64, or p at most 1,000?",
             4 => "Is the log's length a multiple of 9?",
@@ -329,7 +314,7 @@ pub fn query(query: Query, log: &[u8], slot: &mut [u8]) -> Result<Reduction, Ref
     })
 }
 
-/// Reads a slot.
+/// Reads a slot with all of its rows.
 ///
 /// Asks questions 1 and 11 to 17. Every error number is accepted. Whether the slot belongs to
 /// some log is the caller's care.
@@ -345,26 +330,29 @@ pub fn query(query: Query, log: &[u8], slot: &mut [u8]) -> Result<Reduction, Ref
 /// # Ok::<(), pacer::Refusal>(())
 /// ```
 pub fn read(slot: &[u8]) -> Result<Profile<'_>, Refusal> {
-    let answer = c::read(slot);
+    let mut list = [Row::default(); ROWS];
+    let answer = c::read_rows(slot, &mut list);
     Refusal::from_answer(answer.question, answer.index)?;
     Ok(Profile {
         slot,
         kind: Kind(answer.kind),
         error: answer.error,
+        list,
         count: answer.rows,
     })
 }
 
-/// An accepted slot.
+/// An accepted slot, with the rows read from it.
 #[derive(Clone, Copy, Debug)]
 pub struct Profile<'a> {
     slot: &'a [u8],
     kind: Kind,
     error: u64,
+    list: [Row; ROWS],
     count: usize,
 }
 
-impl<'a> Profile<'a> {
+impl Profile<'_> {
     /// The kind that the slot names.
     pub fn kind(&self) -> Kind {
         self.kind
@@ -386,11 +374,8 @@ impl<'a> Profile<'a> {
     }
 
     /// The rows, by group and then by first frame.
-    pub fn rows(&self) -> Rows<'a> {
-        Rows {
-            walker: Walker::new(self.slot),
-            count: self.count,
-        }
+    pub fn rows(&self) -> &[Row] {
+        &self.list[..self.count]
     }
 
     /// The value of the row that contains a frame of a group, if there is one. Asks question 7.
@@ -399,55 +384,18 @@ impl<'a> Profile<'a> {
     }
 }
 
-impl<'a> IntoIterator for Profile<'a> {
-    type Item = Row;
-    type IntoIter = Rows<'a>;
+impl<'a> IntoIterator for &'a Profile<'_> {
+    type Item = &'a Row;
+    type IntoIter = std::slice::Iter<'a, Row>;
 
-    fn into_iter(self) -> Rows<'a> {
-        self.rows()
+    fn into_iter(self) -> Self::IntoIter {
+        self.rows().iter()
     }
 }
-
-/// An iterator over the rows of an accepted slot.
-///
-/// ```
-/// # use pacer::{Bound, Kind, Query, Record};
-/// # let log = pacer::log(&[Record { group: 3, first: 5, last: 9, load: 40 }])?;
-/// # let mut slot = [0; pacer::SLOT_BYTES];
-/// # pacer::query(Query { kind: Kind::SUM, bound: Bound::Rows(1) }, &log, &mut slot)?;
-/// let mut rows = pacer::read(&slot)?.rows();
-/// assert_eq!(rows.len(), 1);
-/// assert_eq!(rows.next().map(|row| (row.group, row.value)), Some((3, 40)));
-/// assert_eq!(rows.next(), None);
-/// # Ok::<(), pacer::Refusal>(())
-/// ```
-#[derive(Clone, Debug)]
-pub struct Rows<'a> {
-    walker: Walker<'a>,
-    count: usize,
-}
-
-impl Iterator for Rows<'_> {
-    type Item = Row;
-
-    fn next(&mut self) -> Option<Row> {
-        // The slot was accepted and is borrowed, so no step is refused.
-        self.walker.step().ok().flatten()
-    }
-
-    fn size_hint(&self) -> (usize, Option<usize>) {
-        let left = self.count - self.walker.number();
-        (left, Some(left))
-    }
-}
-
-impl ExactSizeIterator for Rows<'_> {}
-
-impl FusedIterator for Rows<'_> {}
 
 /// A walk over a slot: the slot and the number of the next row.
 ///
-/// Unlike [`Rows`] it can start over any bytes; every step asks the slot's questions.
+/// Unlike [`read`] it takes any bytes; every step asks the slot's questions.
 ///
 /// ```
 /// use pacer::Walker;
@@ -476,11 +424,9 @@ impl<'a> Walker<'a> {
 
     /// Hands out the next row, or `None` at the end. The end and a refusal change nothing.
     pub fn step(&mut self) -> Result<Option<Row>, Refusal> {
-        let row = row_at(self.slot, self.number)?;
-        if row.is_some() {
-            self.number += 1;
-        }
-        Ok(row)
+        let answer = c::row_at(self.slot, self.number);
+        self.number = answer.next;
+        row_in(answer)
     }
 }
 
@@ -494,7 +440,11 @@ impl<'a> Walker<'a> {
 /// assert_eq!(pacer::row_at(&slot, 0), Ok(None));
 /// ```
 pub fn row_at(slot: &[u8], number: usize) -> Result<Option<Row>, Refusal> {
-    let answer = c::row_at(slot, number);
+    row_in(c::row_at(slot, number))
+}
+
+/// The row of a step's answer.
+fn row_in(answer: c::StepAnswer) -> Result<Option<Row>, Refusal> {
     Refusal::from_answer(answer.question, answer.index)?;
     Ok((answer.found == 1).then_some(Row {
         group: answer.group,

@@ -1,6 +1,8 @@
 //! Log G and the paper's other small cases, through the safe functions.
 
-use pacer::{Bound, Kind, Query, Record, Refusal, Row, Segment, SEGMENT_PLACES, SLOT_BYTES};
+use pacer::c;
+use pacer::{Bound, Kind, Query, Record, Refusal, Row, Segment, Walker};
+use pacer::{ROWS, SEGMENT_PLACES, SLOT_BYTES};
 
 fn record(group: u8, first: u16, last: u16, load: u16) -> Record {
     Record {
@@ -43,6 +45,7 @@ fn reduce(bound: Bound, log: &[u8]) -> Result<(Vec<Fields>, u64), Refusal> {
     assert_eq!(profile.kind(), Kind::SUM);
     let rows = profile
         .rows()
+        .iter()
         .map(|r| (r.group, r.first, r.last, r.value))
         .collect();
     Ok((rows, answer.error))
@@ -123,26 +126,66 @@ fn small_cases() {
     );
 }
 
+/// The rows of G for c = 4.
+const ROWS_OF_G: [Row; 4] = [
+    row(0, 0, 1, 100),
+    row(0, 2, 6, 242),
+    row(0, 9, 10, 50),
+    row(1, 0, 0, 7),
+];
+
+const fn row(group: u8, first: u16, last: u16, value: u32) -> Row {
+    Row {
+        group,
+        first,
+        last,
+        value,
+    }
+}
+
+#[test]
+fn walks_and_lists_of_rows() {
+    let mut slot = [0; SLOT_BYTES];
+    pacer::query(sum(Bound::Rows(4)), &log_g(), &mut slot).unwrap();
+    assert_eq!(pacer::read(&slot).unwrap().rows(), ROWS_OF_G);
+
+    // The walker hands out row after row, then the end again and again.
+    let mut walker = Walker::new(&slot);
+    for (number, row) in ROWS_OF_G.iter().enumerate() {
+        assert_eq!(walker.number(), number);
+        assert_eq!(walker.step(), Ok(Some(*row)));
+    }
+    for _ in 0..2 {
+        assert_eq!(walker.step(), Ok(None));
+        assert_eq!(walker.number(), 4);
+    }
+
+    // Places behind the rows keep their content, and in a refusal all do.
+    let untouched = row(9, 8, 7, 6);
+    let mut list = [untouched; ROWS + 1];
+    let answer = c::read_rows(&slot, &mut list);
+    assert_eq!((answer.question, answer.rows, answer.error), (0, 4, 11_280));
+    assert_eq!(list[..4], ROWS_OF_G);
+    assert_eq!(list[4..], [untouched; ROWS - 3]);
+
+    let mut list = [untouched; ROWS];
+    assert_eq!(c::read_rows(&slot, &mut list[..ROWS - 1]).question, 1);
+    slot[767] = 1;
+    assert_eq!(c::read_rows(&slot, &mut list).question, 17);
+    assert_eq!(c::read_rows(&slot[..767], &mut list).question, 1);
+    assert_eq!(list, [untouched; ROWS]);
+    assert_eq!(Walker::new(&slot).step().unwrap_err().question, 17);
+}
+
 #[test]
 fn rows_and_refusals() {
     let log = log_g();
     let mut slot = [0; SLOT_BYTES];
     pacer::query(sum(Bound::Rows(4)), &log, &mut slot).unwrap();
     let profile = pacer::read(&slot).unwrap();
-    let mut rows = profile.into_iter();
-    assert_eq!(rows.len(), 4);
-    rows.next();
-    assert_eq!(rows.len(), 3);
-    assert_eq!(
-        rows.next(),
-        Some(Row {
-            group: 0,
-            first: 2,
-            last: 6,
-            value: 242
-        })
-    );
-    assert_eq!(rows.clone().count(), 2);
+    assert_eq!(profile.rows().len(), 4);
+    assert_eq!(profile.rows()[1], ROWS_OF_G[1]);
+    assert_eq!((&profile).into_iter().count(), 4);
     assert_eq!(profile.lookup(0, 8), Ok(None));
     assert_eq!(profile.lookup(1, 0), Ok(Some(7)));
 

@@ -393,8 +393,6 @@ pub struct Reduction {
     pub rows: Vec<Stretch>,
     pub error: u64,
     pub weighed: u64,
-    /// The rows tried, K in the paper's bound of the cuts weighed.
-    pub tried: usize,
 }
 
 /// The best reduction of some segments under a row limit or a share, none if there are too few
@@ -411,7 +409,6 @@ pub fn reduce(segments: &[Stretch], rule: u8, bound: u16) -> Option<Reduction> {
             rows: Vec::new(),
             error: 0,
             weighed: 0,
-            tried: 0,
         });
     }
     let mut table = Table::new(segments);
@@ -440,7 +437,6 @@ pub fn reduce(segments: &[Stretch], rule: u8, bound: u16) -> Option<Reduction> {
         rows: table.read_back(chosen),
         error: table.error(chosen)?,
         weighed: table.weighed(),
-        tried: table.rows(),
     })
 }
 

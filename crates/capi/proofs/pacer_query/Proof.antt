@@ -17,7 +17,7 @@ same-length c = search needs
 returns : tie.Need-returns
 returns c =
     let e = c .before .before .before .query-by-letter .ensures in
-    (c .of-query .ensures ∙ ap queryFields (e .0), e .1)
+    (c .of-query .ensures ∙ ap queryFields (e .0), (e .1 .0, (_, c .of-query .ensures, e .1 .1)))
 
 pub pacer-query-spec : {M : Type 1} → statement M
 pacer-query-spec =

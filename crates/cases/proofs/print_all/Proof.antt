@@ -21,8 +21,8 @@ sub-loop c = omega arith
 add-start : tie.Need-add-start Inv-loop μ-loop
 add-start c = omega arith
 
-number-requires : tie.Need-number-requires Inv-loop μ-loop
-number-requires c κs = omega arith
+two-requires : tie.Need-two-requires Inv-loop μ-loop
+two-requires c κs = omega arith
 
 cast-size : tie.Need-cast-size Inv-loop μ-loop
 cast-size c = search needs
@@ -66,7 +66,7 @@ print-all-spec =
     loop-holds
     sub-loop
     add-start
-    number-requires
+    two-requires
     cast-size
     sub-if1
     returns

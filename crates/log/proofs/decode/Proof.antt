@@ -12,7 +12,8 @@ use Rattle.model.specs.Questions.{mostRecords}
 use Rattle.model.specs.Arrays.{recordArrays}
 use Rattle.model.specs.Calls.{recordSpan}
 use Rattle.theory.proofs.SlotLaws.{length-listFrom}
-use Rattle.log.proofs.Columns.{listFrom-snoc, record-stored}
+use Rattle.theory.proofs.Lists.{listFrom-snoc}
+use Rattle.log.proofs.Columns.{record-stored}
 use native.Mathlib.Omega.{arith}
 use Rattle.log.proofs.decode.Statement.{statement}
 use Rattle.log.proofs.decode.Tie as tie

@@ -13,32 +13,32 @@ add-t3 c = search needs
 shared-slice-read-t5 : tie.Need-shared-slice-read-t5
 shared-slice-read-t5 c = search needs
 
-add-number : tie.Need-add-number
-add-number c = search needs
+add-two : tie.Need-add-two
+add-two c = search needs
 
-number-requires : tie.Need-number-requires
-number-requires c κs = search needs
+two-requires : tie.Need-two-requires
+two-requires c κs = search needs
 
-add-number-2 : tie.Need-add-number-2
-add-number-2 c = search needs
+add-two-2 : tie.Need-add-two-2
+add-two-2 c = search needs
 
-number-requires-2 : tie.Need-number-requires-2
-number-requires-2 c κs = search needs
+two-requires-2 : tie.Need-two-requires-2
+two-requires-2 c κs = search needs
 
-add-number-3 : tie.Need-add-number-3
-add-number-3 c = search needs
+add-two-3 : tie.Need-add-two-3
+add-two-3 c = search needs
 
-number-requires-3 : tie.Need-number-requires-3
-number-requires-3 c κs = search needs
+two-requires-3 : tie.Need-two-requires-3
+two-requires-3 c κs = search needs
 
 returns : tie.Need-returns
 unfolding recordSpan recordAt
 returns c = λ i.
     record {
       group = getD (c .before .before .before .before .before .args .log .now) (c .before .before .before .before .before .args .at + 2) 0;
-      first = c .before .before .number .ensures i;
-      last = c .before .number2 .ensures i;
-      value = c .number3 .ensures i;
+      first = c .before .before .two .ensures i;
+      last = c .before .two2 .ensures i;
+      value = c .two3 .ensures i;
     }
 
 pub record-at-spec : {M : Type 1} → statement M
@@ -47,10 +47,10 @@ record-at-spec =
     (tie.spec
     add-t3
     shared-slice-read-t5
-    add-number
-    number-requires
-    add-number-2
-    number-requires-2
-    add-number-3
-    number-requires-3
+    add-two
+    two-requires
+    add-two-2
+    two-requires-2
+    add-two-3
+    two-requires-3
     returns)

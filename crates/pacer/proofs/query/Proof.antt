@@ -3,15 +3,14 @@
 use Prim.Native.Nat.{ℕ, _≤_}
 use borrow.Author.Needs.{needs}
 use borrow.Author.Tests.{not-true, not-false}
-use mathlib.Core.Bool.{Bool, true, false}
 use mathlib.Core.List.{List, _++_}
-use mathlib.Core.Path.{_≡_, refl, sym, ap, _∙_}
-use denote.Ref.{now}
+use mathlib.Core.Path.{_≡_, sym, ap, _∙_}
 use lib.ListN.{length, drop}
 use Rattle.model.specs.Slot.{slotLength}
 use Rattle.model.specs.Calls.{queryOutcome, querySlot}
-use Rattle.pacer.specs.Prepared.{writes, preparedSlot}
-use Rattle.pacer.proofs.Answering.{keeps, stores, promises}
+use Rattle.theory.proofs.Demands.{query-promise}
+use Rattle.preparing.specs.Prepared.{writes, preparedSlot}
+use Rattle.pacer.proofs.Answering.{keeps, stores}
 use Rattle.pacer.proofs.query.Statement.{statement}
 use Rattle.pacer.proofs.query.Tie as tie
 
@@ -32,8 +31,7 @@ returns c =
     let a = c .before .before .before .before .before .args in
     let says = c .before .before .prepare .ensures .0 in
     let kept = keeps (a .query) (a .log .now) (a .slot .now) (sym (said (c .before)) ∙ not-true _ (c .if1 .taken)) in
-    let p = promises (a .query) (a .log .now) (a .slot .now) _ _ says kept in
-    (says, (kept, (p .0, p .1)))
+    (says, (kept, query-promise (a .query) (a .log .now) (a .slot .now) _ _ says kept))
 
 -- a query that writes
 stored : (c : tie.After-store-arg) →
@@ -59,8 +57,7 @@ returns-2 c =
     let says = p .prepare .ensures .0 in
     let holds = s .store .ensures
     ∙ ap (λ (l : List ℕ). l ++ drop 768 (a .slot .now)) (p .prepare .ensures .1) ∙ stored (s .before) .1 in
-    let d = promises (a .query) (a .log .now) (a .slot .now) _ _ says holds in
-    (says, (holds, (d .0, d .1)))
+    (says, (holds, query-promise (a .query) (a .log .now) (a .slot .now) _ _ says holds))
 
 pub query-spec : {M : Type 1} → statement M
 query-spec =

@@ -1,6 +1,5 @@
 -- `query_and_read` meets its contract: what the reader returns is what the slot holds, and that is best. Assumes nothing.
 use borrow.Author.Needs.{needs}
-use mathlib.Core.Path.{sym, ap, _∙_}
 use Rattle.pacer.proofs.Answering.{best-reading}
 use Rattle.pacer.proofs.query_and_read.Statement.{statement}
 use Rattle.pacer.proofs.query_and_read.Tie as tie
@@ -19,7 +18,7 @@ returns c =
     let q = c .before .before .before .before in
     let e = q .query .ensures in
     let r = c .read .ensures in
-    (e .0, (e .1 .0, (r .0, (r .1, λ counts accepts. best-reading _ _ _ (c .read .result) (e .1 .1 .0 counts accepts) (r .0) (r .1)))))
+    (e .0, (e .1 .0, (r .0, (r .1, (e .1 .1, λ counts accepts. best-reading _ _ _ (c .read .result) (e .1 .1 .best counts accepts) (r .0) (r .1))))))
 
 pub query-and-read-spec : {M : Type 1} → statement M
 query-and-read-spec = tie.close (tie.spec query-requires read-requires same-length returns)

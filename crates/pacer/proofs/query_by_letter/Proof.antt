@@ -1,12 +1,26 @@
 -- `query_by_letter` meets its contract: the letter names the bound, or refuses. Assumes nothing.
 use borrow.Author.Needs.{needs}
 use borrow.Author.Tests.{eq-eqb, ne-eqb}
-use mathlib.Core.Path.{refl, _∙_}
-use Rattle.model.specs.Calls.{boundOf}
+use Prim.Native.Nat.{ℕ}
+use mathlib.Core.List.{List}
+use mathlib.Core.Path.{_≡_, _∙_}
+use lib.ListN.{length}
+use Rattle.model.specs.Questions.{Outcome}
+use Rattle.model.specs.Calls.{Counts, boundOf, letterOutcome, letterSlot}
+use Rattle.model.specs.Demands.{LetterPromise}
 use Rattle.model.specs.declared.Bound.the-variants.{Rows, Share}
+use Rattle.theory.proofs.Demands.{letter-promise}
 use Rattle.pacer.proofs.Answering.{by-letter, no-letter}
 use Rattle.pacer.proofs.query_by_letter.Statement.{statement}
 use Rattle.pacer.proofs.query_by_letter.Tie as tie
+
+-- what is said and what the slot holds, with what they promise
+kept : (kind letter x : ℕ) (log slot : List ℕ) {says : Outcome Counts} {after : List ℕ}
+    → says ≡ letterOutcome kind letter x log (length slot) → after ≡ letterSlot kind letter x log slot
+    → (says ≡ letterOutcome kind letter x log (length slot))
+    × ((after ≡ letterSlot kind letter x log slot) × LetterPromise kind letter x log slot says after)
+kept kind letter x log slot {says} {after} answers holds =
+    (answers, (holds, letter-promise kind letter x log slot says after answers holds))
 
 query-requires : tie.Need-query-requires
 query-requires c κs = search needs
@@ -22,7 +36,7 @@ returns c =
     let e = c .before .before .query .ensures in
     let says = by-letter (a .kind) (a .letter) (a .bound) (a .log .now) (a .slot .now) (Rows (a .bound))
     (simp (eq-eqb _ _ (t .if1 .taken))) in
-    (e .0 ∙ says .0, e .1 .0 ∙ says .1)
+    kept (a .kind) (a .letter) (a .bound) (a .log .now) (a .slot .now) (e .0 ∙ says .0) (e .1 .0 ∙ says .1)
 
 query-requires-2 : tie.Need-query-requires-2
 query-requires-2 c κs = search needs
@@ -38,7 +52,7 @@ returns-2 c =
     let e = c .before .before .query2 .ensures in
     let says = by-letter (a .kind) (a .letter) (a .bound) (a .log .now) (a .slot .now) (Share (a .bound))
     (simp (ne-eqb _ _ (t .before .if1 .left), eq-eqb _ _ (t .if2 .taken))) in
-    (e .0 ∙ says .0, e .1 .0 ∙ says .1)
+    kept (a .kind) (a .letter) (a .bound) (a .log .now) (a .slot .now) (e .0 ∙ says .0) (e .1 .0 ∙ says .1)
 
 refuse-letter-requires : tie.Need-refuse-letter-requires
 refuse-letter-requires c κs = search needs
@@ -50,7 +64,7 @@ returns-3 c =
     let a = t .before .before .before .before .args in
     let says = no-letter (a .kind) (a .letter) (a .bound) (a .log .now) (a .slot .now)
     (simp (ne-eqb _ _ (t .before .if1 .left), ne-eqb _ _ (t .if2 .left))) in
-    (c .refuse-letter .ensures ∙ says .0, says .1)
+    kept (a .kind) (a .letter) (a .bound) (a .log .now) (a .slot .now) (c .refuse-letter .ensures ∙ says .0) (says .1)
 
 pub query-by-letter-spec : {M : Type 1} → statement M
 query-by-letter-spec =

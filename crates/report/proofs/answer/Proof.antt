@@ -44,7 +44,7 @@ read-back c =
     let slot = q .before .before .no-slot in
     let size : length (slot .result) ≡ 768 = ap (length {A = ℕ}) (slot .ensures) ∙ length-replicate {A = ℕ} 768 0 in
     printed (a .kind) (a .letter) (a .bound) (a .log .now) (slot .result) size _ _ (q .query-by-letter .ensures .0)
-    (c .read .ensures .1 ∙ ap (λ s. rowArray (readRows s)) (q .query-by-letter .ensures .1))
+    (c .read .ensures .1 ∙ ap (λ s. rowArray (readRows s)) (q .query-by-letter .ensures .1 .0))
 
 put-answer-requires : tie.Need-put-answer-requires
 put-answer-requires c κs =

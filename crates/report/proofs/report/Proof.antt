@@ -49,8 +49,8 @@ shared-slice-read-answer c = search needs
 shared-slice-read-answer-2 : tie.Need-shared-slice-read-answer-2
 shared-slice-read-answer-2 c = search needs
 
-number-requires : tie.Need-number-requires
-number-requires c κs = omega arith
+two-requires : tie.Need-two-requires
+two-requires c κs = omega arith
 
 answer-requires : tie.Need-answer-requires
 answer-requires c κs = search needs
@@ -62,7 +62,7 @@ returns-3 c =
     let input : List ℕ = t .before .before .before .args .input .now in
     let e = c .answer .ensures in
     let log : take (length input - 4) (drop 4 input) ≡ drop 4 input = take-all (length input - 4) (drop 4 input) (omega (arith, length-drop 4 input)) in
-    (counts _ _ (e .0), e .1 ∙ simp (le-ltb _ _ (t .before .if1 .left), le-ltb _ _ (t .if2 .left), c .before .before .number .ensures, log))
+    (counts _ _ (e .0), e .1 ∙ simp (le-ltb _ _ (t .before .if1 .left), le-ltb _ _ (t .if2 .left), c .before .before .two .ensures, log))
 
 pub report-spec : {M : Type 1} → statement M
 report-spec =
@@ -77,6 +77,6 @@ report-spec =
     part-log-end
     shared-slice-read-answer
     shared-slice-read-answer-2
-    number-requires
+    two-requires
     answer-requires
     returns-3)

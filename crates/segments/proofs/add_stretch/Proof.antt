@@ -8,9 +8,10 @@ use Rattle.model.specs.Spans.{Span}
 use Rattle.model.specs.Segments.{framesFrom}
 use Rattle.model.specs.Arrays.{segmentsIn, segmentArrays}
 use Rattle.model.specs.declared.Segments.{Segments}
-use Rattle.segments.specs.Steps.{ownsIn, loadsAt, stopAt, surveyed, ownValue, joined, segmentSpan, arraysOf}
-use Rattle.segments.specs.declared.Here.{Here}
-use Rattle.segments.specs.declared.Own.{Own}
+use Rattle.tally.specs.Tally.{ownsIn, loadsAt, stopAt, surveyed, ownValue}
+use Rattle.segments.specs.Steps.{joined, segmentSpan, arraysOf}
+use Rattle.tally.specs.declared.Here.{Here}
+use Rattle.tally.specs.declared.Own.{Own}
 use Rattle.segments.proofs.Stretches.{stretch-none, stretch-one}
 use Rattle.segments.proofs.add_stretch.Statement.{statement}
 use Rattle.segments.proofs.add_stretch.Tie as tie

@@ -13,8 +13,9 @@ use Rattle.model.specs.Arrays.{spanIn, spansIn, segmentsIn, segmentArrays}
 use Rattle.model.specs.Questions.{mostRecords}
 use Rattle.model.specs.declared.Segments.{Segments}
 use Rattle.theory.proofs.SlotLaws.{length-listFrom}
-use Rattle.segments.specs.declared.Own.{Own}
-use Rattle.segments.specs.Steps.{ownsIn, Sized, ownValue, joined, arraysOf, Made}
+use Rattle.tally.specs.declared.Own.{Own}
+use Rattle.tally.specs.Tally.{ownsIn, Sized, ownValue}
+use Rattle.segments.specs.Steps.{joined, arraysOf, Made}
 use Rattle.segments.proofs.Joining.{joined-le}
 use Rattle.segments.proofs.Storing.{made-by, made-behind}
 use Rattle.segments.proofs.Groups.{segments-joined, groups-left, groups-past, frames-own, enough-places}
@@ -45,7 +46,7 @@ so-far c =
 
 in-groups : (c : tie.In-loop Inv-loop μ-loop) → c .before .loop .group < groupCount
 unfolding groupCount
-in-groups c = c .loop-test .taken
+in-groups c = omega arith
 
 at-end : (c : tie.After-loop Inv-loop μ-loop) → groupCount ≤ c .before .loop .group
 unfolding groupCount

@@ -12,12 +12,13 @@ use Rattle.model.specs.Spans.{Span, frameCount}
 use Rattle.model.specs.Segments.{framesFrom}
 use Rattle.model.specs.Arrays.{segmentsIn, segmentArrays}
 use Rattle.model.specs.declared.Segments.{Segments}
-use Rattle.segments.specs.Steps.{ownsIn, surveyed, ownValue, joined, arraysOf, Made}
-use Rattle.segments.specs.declared.Here.{Here}
+use Rattle.tally.specs.Tally.{ownsIn, surveyed, ownValue}
+use Rattle.segments.specs.Steps.{joined, arraysOf, Made}
+use Rattle.tally.specs.declared.Here.{Here}
 use Rattle.segments.proofs.Joining.{joined-le}
 use Rattle.segments.proofs.Storing.{made-by, made-behind}
-use Rattle.segments.proofs.Loads.{stop-le}
-use Rattle.segments.proofs.Stretches.{stop-from, joined-parts, frames-past, frames-unowned}
+use Rattle.tally.proofs.Stops.{stop-from, stop-le}
+use Rattle.segments.proofs.Stretches.{joined-parts, frames-past, frames-unowned}
 use Rattle.segments.proofs.find_group.Statement.{statement}
 use Rattle.segments.proofs.find_group.Tie as tie
 

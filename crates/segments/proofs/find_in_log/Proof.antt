@@ -3,6 +3,7 @@ use borrow.Author.Needs.{needs}
 use mathlib.Core.Path.{_≡_, refl, sym, ap, _∙_}
 use Prim.Native.Nat.{ℕ}
 use mathlib.Core.List.{List, []}
+use native.Mathlib.Omega.{arith}
 use borrow.Author.Tests.{le-leb, lt-leb}
 use Rattle.model.specs.Questions.{accepted, outcome, lent, ask, askRoom, kindKnown, logQuestions, mostSegments, segmentsQuestions}
 use Rattle.model.specs.Calls.{askedCase, segmentsCase, segmentsOutcome, logSegments}
@@ -12,8 +13,8 @@ use Rattle.model.specs.Log.{records}
 use Rattle.model.specs.Segments.{segments}
 use Rattle.model.specs.Demands.{AllPass}
 use Rattle.model.specs.declared.Segments.{Segments}
-use Rattle.theory.proofs.Refusals.{outcome-accepted, all-outcome, all-lent, refused-lent}
-use Rattle.log.proofs.Asking.{refused-other, few-records, decoded-count}
+use Rattle.theory.proofs.Refusals.{outcome-accepted, all-outcome, all-lent, refused-lent, refused-same}
+use Rattle.log.proofs.Asking.{few-records, decoded-count}
 use Rattle.log.proofs.Columns.{records-held}
 use Rattle.segments.proofs.find_in_log.Statement.{statement}
 use Rattle.segments.proofs.find_in_log.Tie as tie
@@ -36,7 +37,7 @@ refuse-requires c κs = search needs
 returns : tie.Need-returns
 unfolding segmentsOutcome segmentsQuestions askRoom ask kindKnown outcome lent mostSegments
 returns c =
-    let small = lt-leb _ _ (c .before .if1 .taken) in
+    let small = lt-leb 255 (c .before .before .before .args .places) (omega (arith, c .before .if1 .taken)) in
     (c .refuse .ensures .0 ∙ simp small, c .refuse .ensures .1 ∙ simp small)
 
 refuse-requires-2 : tie.Need-refuse-requires-2
@@ -45,8 +46,9 @@ refuse-requires-2 c κs = search needs
 returns-2 : tie.Need-returns-2
 unfolding segmentsOutcome segmentsQuestions askRoom ask kindKnown outcome lent mostSegments
 returns-2 c =
-    let room = le-leb _ _ (c .before .before .if1 .left) in
-    let unknown = lt-leb _ _ (c .before .if2 .taken) in
+    let a = c .before .before .before .before .args in
+    let room = le-leb 255 (a .places) (omega (arith, c .before .before .if1 .left)) in
+    let unknown = lt-leb (a .kind) 3 (omega (arith, c .before .if2 .taken)) in
     (c .refuse2 .ensures .0 ∙ simp (room, unknown), c .refuse2 .ensures .1 ∙ simp (room, unknown))
 
 ask-requires : tie.Need-ask-requires
@@ -77,8 +79,8 @@ returns-3 c =
     let d = c .before .before .before .before .before .before .before .before .before .before in
     let a = d .before .before .before .before .before .before .before .args in
     let log : List ℕ = a .log .now in
-    let room = le-leb _ _ (d .before .before .before .before .before .if1 .left) in
-    let known = le-leb _ _ (d .before .before .before .before .if2 .left) in
+    let room = le-leb 255 (a .places) (omega (arith, d .before .before .before .before .before .if1 .left)) in
+    let known = le-leb (a .kind) 3 (omega (arith, d .before .before .before .before .if2 .left)) in
     let all = passed (d .before) in
     let found = c .find .ensures ∙ ap (λ (rs : List (Span ℕ)). segmentArrays (segments (a .kind) rs)) (of-log d) in (
       ap (λ (s : Segments). accepted (s .count)) found ∙ simp (room, known) (sym (all-outcome (logQuestions log) _ all)),
@@ -90,13 +92,13 @@ unfolding segmentsOutcome segmentsQuestions askRoom ask kindKnown outcome lent m
 returns-4 c =
     let a = c .before .before .before .before .before .before .before .before .args in
     let log : List ℕ = a .log .now in
-    let room = le-leb _ _ (c .before .before .before .before .before .before .if1 .left) in
-    let known = le-leb _ _ (c .before .before .before .before .before .if2 .left) in
+    let room = le-leb 255 (a .places) (omega (arith, c .before .before .before .before .before .before .if1 .left)) in
+    let known = le-leb (a .kind) 3 (omega (arith, c .before .before .before .before .before .if2 .left)) in
     let g = c .before .before .refusal .given in
     let says = sym (c .before .before .before .before .ask .ensures) ∙ ap askedCase (g .1) in
     let n = g .0 .0 .question in
     let i = g .0 .0 .index in (
-      c .refuse3 .ensures .0 ∙ simp (room, known) (sym (refused-other (logQuestions log) (tt {0}) _ n i says)),
+      c .refuse3 .ensures .0 ∙ simp (room, known) (sym (refused-same (logQuestions log) (tt {0}) _ n i says)),
       c .refuse3 .ensures .1 ∙ simp (room, known) (ap segmentArrays (sym (refused-lent (logQuestions log) (tt {0}) n i _ [] says))),
     )
 

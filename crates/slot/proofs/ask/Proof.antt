@@ -9,7 +9,8 @@ use lib.ListN.{length, getD, take}
 use Rattle.model.specs.Slot.{slotLength, rowPlace, slotCount}
 use Rattle.model.specs.Questions.{accepted, ask, outcome, each, rowQuestions, tailZero, slotQuestions}
 use Rattle.model.specs.Calls.{askedCase}
-use Rattle.slot.proofs.Answers.{answer, header-sized, refused-header, refused-rows, behind-rows}
+use Rattle.theory.proofs.Asking.{answer}
+use Rattle.slot.proofs.Answers.{header-sized, refused-header, refused-rows, behind-rows}
 use Rattle.slot.proofs.ask.Statement.{statement}
 use Rattle.slot.proofs.ask.Tie as tie
 
@@ -26,9 +27,9 @@ enum-told c = search needs
 abbrev Slot : tie.After-enum-told → List ℕ
 Slot c = now (c .before .before .before .before .args .slot)
 
-header : (c : tie.After-enum-told) → accepted tt ≡ answer (take 4 (slotQuestions (Slot c)))
+header : (c : tie.After-enum-told) → answer (take 4 (slotQuestions (Slot c))) ≡ accepted tt
 unfolding askedCase
-header c = ap askedCase (sym (c .enum-told .given .1)) ∙ c .before .before .ask-header .ensures
+header c = sym (c .before .before .ask-header .ensures) ∙ ap askedCase (c .enum-told .given .1)
 
 sizes : (c : tie.After-enum-told) → (768 ≤ length (Slot c)) × (getD (Slot c) 3 0 ≤ 64)
 unfolding slotCount
@@ -80,29 +81,29 @@ unfolding askedCase
 last c =
     let r = c .before .before in
     let h = r .before .before .before .before .before in
-    rw (tail c)
-    (behind-rows (Slot h) (header h) (ap askedCase (sym (r .enum-told2 .given .1)) ∙ rows (r .before .before)))
+    let passed = sym (rows (r .before .before)) ∙ ap askedCase (r .enum-told2 .given .1) in
+    rw (tail c) (sym (behind-rows (Slot h) (header h) passed))
 
 returns : tie.Need-returns
 unfolding askedCase
 returns c =
     let h = c .before .before .before in
-    refused-header _ (ap askedCase (sym (c .before .header .given .1)) ∙ h .ask-header .ensures)
+    sym (refused-header _ _ _ (sym (h .ask-header .ensures) ∙ ap askedCase (c .before .header .given .1)))
 
 returns-2 : tie.Need-returns-2
 unfolding askedCase
 returns-2 c =
     let r = c .before .before .before in
     let h = r .before .before .before in
-    refused-rows (Slot h) (header h) (ap askedCase (sym (c .before .rows .given .1)) ∙ rows r)
+    sym (refused-rows (Slot h) (header h) _ _ (sym (rows r) ∙ ap askedCase (c .before .rows .given .1)))
 
 returns-3 : tie.Need-returns-3
 unfolding askedCase outcome ask
 returns-3 c = rw (c .if1 .taken) at (last (c .before))
 
 returns-4 : tie.Need-returns-4
-unfolding outcome ask
-returns-4 c = c .no .ensures ∙ (rw (c .before .if1 .left) at (last (c .before .before)))
+unfolding askedCase outcome ask
+returns-4 c = ap askedCase (c .no .ensures) ∙ (rw (c .before .if1 .left) at (last (c .before .before)))
 
 pub ask-spec : {M : Type 1} → statement M
 ask-spec =

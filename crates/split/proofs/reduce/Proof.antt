@@ -1,27 +1,20 @@
 -- `reduce` meets its contract. Assumes nothing.
 use Prim.Native.Nat.{ℕ}
 use mathlib.Core.List.{List}
-use mathlib.Core.Path.{_≡_, sym, _∙_}
+use mathlib.Core.Path.{sym, _∙_}
 use native.Mathlib.Omega.{arith}
-use lib.ListN.{length}
-use borrow.Author.Needs.{needs}
 use borrow.Author.Tests.{not-true, not-false}
 use Rattle.model.specs.Spans.{Span}
-use Rattle.model.specs.Arrays.{spanIn, spansIn}
-use Rattle.model.specs.Split.{reduced}
-use Rattle.theory.proofs.SlotLaws.{length-listFrom}
-use Rattle.cuts.specs.Held.{reductionOf}
-use Rattle.cuts.proofs.Spans.{few-spans}
-use Rattle.cuts.proofs.Choosing.{few-rows}
-use Rattle.cuts.proofs.Answering.{nothing-is, refused-is, reduction-weighed}
+use Rattle.model.specs.Arrays.{spansIn}
+use Rattle.model.specs.Split.{errorOf, gapBelow, runs}
+use Rattle.split.specs.Ready.{Counted}
+use Rattle.split.proofs.Measuring.{few-segments, no-runs, no-segments, too-few, reduces}
+use borrow.Author.Needs.{needs}
 use Rattle.split.proofs.reduce.Statement.{statement}
 use Rattle.split.proofs.reduce.Tie as tie
 
 abbrev segs : tie.Start → List (Span ℕ)
-segs c = spansIn (c .args .groups .now) (c .args .firsts .now) (c .args .lasts .now) (c .args .values .now) (c .args .n)
-
-count : (c : tie.Start) → length (segs c) ≡ c .args .n
-count c = length-listFrom 0 (c .args .n) (spanIn (c .args .groups .now) (c .args .firsts .now) (c .args .lasts .now) (c .args .values .now))
+segs s = spansIn (s .args .groups .now) (s .args .firsts .now) (s .args .lasts .now) (s .args .values .now) (s .args .n)
 
 nothing-requires : tie.Need-nothing-requires
 nothing-requires c κs = search needs
@@ -29,36 +22,52 @@ nothing-requires c κs = search needs
 returns : tie.Need-returns
 returns c =
     let s = c .before .before in
-    let is : c .nothing .result ≡ reductionOf (reduced (s .args .bound) (segs s)) =
-    c .nothing .ensures ∙ nothing-is (segs s) (s .args .bound) (count s ∙ c .before .if1 .taken) in
-    (is, reduction-weighed (segs s) (s .args .bound) _ _ (count s) is)
+    let a = s .args in
+    let nothing = no-segments (errorOf (segs s)) (gapBelow (segs s)) (a .n) (runs (segs s)) (a .bound) (a .cuts .now) (c .before .if1 .taken) (no-runs (a .groups .now) (a .firsts .now) (a .lasts .now) (a .values .now) (a .n) (c .before .if1 .taken)) in
+    reduces (c .nothing .ensures ∙ nothing .0, nothing .1)
 
 runs-requires : tie.Need-runs-requires
-runs-requires c κs = few-spans _ _ (c .before .pre .0)
+runs-requires c κs = let a = c .before .args in few-segments (a .groups .now) (a .firsts .now) (a .lasts .now) (a .values .now) (a .n) (c .before .pre .0 .0)
 
-enough-requires : tie.Need-enough-requires
-enough-requires c κs = search needs
+covers-runs-requires : tie.Need-covers-runs-requires
+covers-runs-requires c κs = search needs
 
 refused-requires : tie.Need-refused-requires
 refused-requires c κs = search needs
 
 returns-2 : tie.Need-returns-2
 returns-2 c =
-    let s = c .before .before .before .before .before in
-    let few = sym (c .before .before .enough .ensures) ∙ not-true _ (c .before .if2 .taken) in
-    let is : c .refused .result ≡ reductionOf (reduced (s .args .bound) (segs s)) =
-    c .refused .ensures
-    ∙ refused-is (segs s) (s .args .bound) (few-rows (segs s) (s .args .bound) _ (c .before .before .before .runs .ensures _) few) in
-    (is, reduction-weighed (segs s) (s .args .bound) _ _ (count s) is)
+    let r = c .before .before .before in
+    let s = r .before .before in
+    let few = sym (c .before .before .covers-runs .ensures) ∙ not-true _ (c .before .if2 .taken) in
+    let none-here = too-few (errorOf (segs s)) (gapBelow (segs s)) (s .args .n) (runs (segs s)) (s .args .bound) (s .args .cuts .now) (rw (r .runs .ensures (s .args .values .now)) at few) in
+    reduces (c .refused .ensures ∙ none-here .0, none-here .1)
 
-tabulate-requires : tie.Need-tabulate-requires
-tabulate-requires c κs =
+-- the runs are counted, and each may have a row
+counted : (c : tie.Else2) →
+    let a = c .before .before .before .before .args in
+    Counted (a .groups .now) (a .firsts .now) (a .lasts .now) (a .values .now) (a .n) (c .before .before .runs .result) (a .bound)
+counted c =
     let s = c .before .before .before .before in
-    let enough = sym (c .before .enough .ensures) ∙ not-false _ (c .if2 .left) in
-    (s .pre .0, ((omega arith, s .pre .1, enough), c .before .before .runs .ensures _))
+    record {
+      measured = s .pre .0 .0;
+      is-runs = c .before .before .runs .ensures (s .args .values .now);
+      some-segments = omega arith;
+      known = s .pre .0 .1;
+      covers = sym (c .before .covers-runs .ensures) ∙ not-false _ (c .if2 .left);
+    }
+
+reduce-run-requires : tie.Need-reduce-run-requires
+reduce-run-requires c κs = (rw (c .before .if3 .taken) at (counted (c .before .before)), c .before .before .before .before .before .before .pre .1)
 
 returns-3 : tie.Need-returns-3
 returns-3 c = search needs
+
+tabulate-requires : tie.Need-tabulate-requires
+tabulate-requires c κs = (counted (c .before .before), c .before .before .before .before .before .before .pre .1)
+
+returns-4 : tie.Need-returns-4
+returns-4 c = search needs
 
 pub reduce-spec : {M : Type 1} → statement M
 reduce-spec =
@@ -67,8 +76,10 @@ reduce-spec =
     nothing-requires
     returns
     runs-requires
-    enough-requires
+    covers-runs-requires
     refused-requires
     returns-2
+    reduce-run-requires
+    returns-3
     tabulate-requires
-    returns-3)
+    returns-4)

@@ -16,6 +16,12 @@ room c =
     let narrow = rows-narrow (a .rows) _ (c .good .1 .0) in
     room-accepted (a .out .now) (a .rows) (a .count) (a .error) (a .weighed) narrow (c .pre)
 
+returns : tie.Need-returns
+unfolding acceptedText answerText
+returns c =
+    let p = c .before .before .before .before .before .before in
+    put-then (p .put-triple .ensures) refl (c .before .before .put-rows .ensures)
+
 put-triple-requires : tie.Need-put-triple-requires
 unfolding acceptedText answerText
 put-triple-requires c κs = room-first _ refl (room (c .before .before))
@@ -28,12 +34,6 @@ put-rows-requires c κs =
 
 same-length : tie.Need-same-length
 same-length c = search needs
-
-returns : tie.Need-returns
-unfolding acceptedText answerText
-returns c =
-    let p = c .before .before .before .before .before .before in
-    put-then (p .put-triple .ensures) refl (c .before .before .put-rows .ensures)
 
 pub put-accepted-spec : {M : Type 1} → statement M
 put-accepted-spec = tie.close (tie.spec put-triple-requires put-rows-requires same-length returns)

@@ -6,6 +6,15 @@ use Rattle.text.proofs.Putting.{room-first, room-then, put-then}
 use Rattle.text.proofs.put_refusal.Statement.{statement}
 use Rattle.text.proofs.put_refusal.Tie as tie
 
+returns : tie.Need-returns
+unfolding refusalText
+returns c =
+    let r = c .before .before .before .before .before .before .before in
+    let q = r .before .before .before .before in
+    put-then (q .before .before .before .before .put-byte .ensures) refl
+    (put-then (q .put-byte2 .ensures) refl
+    (put-then (r .put-byte3 .ensures) refl (c .before .before .put-pair .ensures)))
+
 put-byte-requires : tie.Need-put-byte-requires
 unfolding refusalText
 put-byte-requires c κs = search needs
@@ -38,15 +47,6 @@ put-pair-requires c κs =
 
 same-length : tie.Need-same-length
 same-length c = search needs
-
-returns : tie.Need-returns
-unfolding refusalText
-returns c =
-    let r = c .before .before .before .before .before .before .before in
-    let q = r .before .before .before .before in
-    put-then (q .before .before .before .before .put-byte .ensures) refl
-    (put-then (q .put-byte2 .ensures) refl
-    (put-then (r .put-byte3 .ensures) refl (c .before .before .put-pair .ensures)))
 
 pub put-refusal-spec : {M : Type 1} → statement M
 put-refusal-spec =

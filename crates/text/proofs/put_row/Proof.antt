@@ -15,6 +15,12 @@ whole : (r : Row)
 unfolding rowText rowSpan
 whole r = line-more (r .group) (r .first) (r .last ∷ r .value ∷ [])
 
+returns : tie.Need-returns
+returns c =
+    let p = c .before .before .before .before .before .before .before .before .before in
+    let s = p .before .before .before .before in
+    put-then (p .put-field .ensures) (whole (s .args .row)) (c .before .before .put-triple .ensures)
+
 cast-put-field : tie.Need-cast-put-field
 cast-put-field c = search needs
 
@@ -38,12 +44,6 @@ put-triple-requires c κs =
 
 same-length : tie.Need-same-length
 same-length c = search needs
-
-returns : tie.Need-returns
-returns c =
-    let p = c .before .before .before .before .before .before .before .before .before in
-    let s = p .before .before .before .before in
-    put-then (p .put-field .ensures) (whole (s .args .row)) (c .before .before .put-triple .ensures)
 
 pub put-row-spec : {M : Type 1} → statement M
 put-row-spec =

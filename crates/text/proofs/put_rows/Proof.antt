@@ -12,13 +12,13 @@ use Rattle.text.proofs.put_rows.Tie as tie
 
 abbrev Inv-loop : tie.InvT-loop
 Inv-loop out₀ at count rows next₀ i₀ out next i =
-    (i ≤ count) × Left out₀ at (rowsText (rowsIn rows count)) out next (rowsFrom rows count i)
+    Left out₀ at (rowsText (rowsIn rows count)) out next (rowsFrom rows count i) × (i ≤ count)
 
 abbrev μ-loop : tie.MeasureT-loop
 μ-loop out₀ at count rows next₀ i₀ out next i = count - i
 
 loop-holds : tie.Need-loop-holds Inv-loop μ-loop
-loop-holds c = (omega arith, left-all (rows-all (c .before .args .t3) (c .before .args .count)) (c .before .pre .1))
+loop-holds c = (left-all (rows-all (c .before .args .t3) (c .before .args .count)) (c .before .pre .1), omega arith)
 
 mul-row : tie.Need-mul-row Inv-loop μ-loop
 mul-row c = omega arith
@@ -31,7 +31,7 @@ unfolding rowOfSpan nowhere
 put-row-requires c κs =
     let l = c .before .before .before in
     let a = l .before .before .args in
-    room-first _ (rows-more (a .t3) (a .count) (l .loop .i) (c .before .before .loop-test .taken)) (l .loop .inv .1 .room)
+    room-first _ (rows-more (a .t3) (a .count) (l .loop .i) (c .before .before .loop-test .taken)) (l .loop .inv .0 .room)
 
 add-i : tie.Need-add-i Inv-loop μ-loop
 add-i c = omega arith
@@ -46,12 +46,12 @@ loop-again c =
     let l = t .before in
     let a = l .before .before .args in
     let whole = rows-more (a .t3) (a .count) (l .loop .i) (t .loop-test .taken) in
-    (omega arith, left-less (l .loop .inv .1) (c .before .before .put-row .ensures) whole)
+    (left-less (l .loop .inv .0) (c .before .before .put-row .ensures) whole, omega arith)
 
 returns : tie.Need-returns Inv-loop μ-loop
 returns c =
     let a = c .before .before .before .args in
-    left-none (rows-none (a .t3) (a .count) (c .before .loop .i) (c .loop-test .left)) (c .before .loop .inv .1)
+    left-none (rows-none (a .t3) (a .count) (c .before .loop .i) (c .loop-test .left)) (c .before .loop .inv .0)
 
 same-length : tie.Need-same-length Inv-loop μ-loop
 same-length c = put-length (returns c)

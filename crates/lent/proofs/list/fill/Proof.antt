@@ -52,7 +52,7 @@ use Rattle.model.proofs.Segment.Laws as G′
 use Rattle.model.proofs.Segments as N
 use Rattle.model.proofs.Segments.Laws as N′
 use Rattle.lent.proofs.Counting.{Turn, counted}
-use Rattle.lent.proofs.Element.{Integers, integer-fits, element}
+use Rattle.lent.proofs.Element.{Integers, integer-fits, integer}
 use Rattle.lent.proofs.Copying.{copied, copied-none, copied-length, copied-more, copied-map}
 use Rattle.lent.proofs.list.fill.Key.{name as #lent·list·fill}
 use Rattle.lent.proofs.list.fill as fill
@@ -206,19 +206,19 @@ module _ {M : Type 1} (𝓤 : URA M) (H : Heap 𝓤) (A : Atoms 𝓤) (W : Given
         -- the place's element of each array is read: its distance from the array's first, the array's address, the element's
         assigns ! (addr ! (from ! (fld ! refl (stop !)))) (from ! (stop !)) (init ! 3 refl (tt, tt)) $
         assigns ! (bin ! (load ! (from ! (stop !)) (look ! 3 refl)) (load ! (from ! (stop !)) (look ! 1 refl)) tt) (from ! (stop !)) (init ! 4 refl (tt, tt)) $
-        assigns ! (of-opd ! (load ! (from ! (hop ! (look ! 4 refl) (stop !))) (look-in ! 23 (element ! w8 255 (segs .groups) i _ groups-are few-i byte-at (sub ! 0 refl (whole !)))))) (from ! (stop !)) (init ! 5 refl (tt, integer-fits w8 255 (segs .groups) i groups-are)) $
+        assigns ! (of-opd ! (load ! (from ! (hop ! (look ! 4 refl) (stop !))) (look-in ! 23 (integer ! w8 255 (segs .groups) i _ groups-are few-i byte-at (sub ! 0 refl (whole !)))))) (from ! (stop !)) (init ! 5 refl (tt, integer-fits w8 255 (segs .groups) i groups-are)) $
         assigns ! (bin ! (load ! (from ! (stop !)) (look ! 1 refl)) (lit ! tt) (record { fits = two-fits })) (from ! (stop !)) (init ! 6 refl (tt, record { fits = two-fits })) $
         assigns ! (addr ! (from ! (fld ! refl (stop !)))) (from ! (stop !)) (init ! 7 refl (tt, tt)) $
         assigns ! (bin ! (load ! (from ! (stop !)) (look ! 7 refl)) (load ! (from ! (stop !)) (look ! 6 refl)) tt) (from ! (stop !)) (init ! 8 refl (tt, tt)) $
-        assigns ! (of-opd ! (load ! (from ! (hop ! (look ! 8 refl) (stop !))) (look-in ! 23 (element ! w16 255 (segs .firsts) i _ firsts-are few-i refl (sub ! 1 refl (whole !)))))) (from ! (stop !)) (init ! 9 refl (tt, integer-fits w16 255 (segs .firsts) i firsts-are)) $
+        assigns ! (of-opd ! (load ! (from ! (hop ! (look ! 8 refl) (stop !))) (look-in ! 23 (integer ! w16 255 (segs .firsts) i _ firsts-are few-i refl (sub ! 1 refl (whole !)))))) (from ! (stop !)) (init ! 9 refl (tt, integer-fits w16 255 (segs .firsts) i firsts-are)) $
         assigns ! (bin ! (load ! (from ! (stop !)) (look ! 1 refl)) (lit ! tt) (record { fits = two-fits })) (from ! (stop !)) (init ! 10 refl (tt, record { fits = two-fits })) $
         assigns ! (addr ! (from ! (fld ! refl (stop !)))) (from ! (stop !)) (init ! 11 refl (tt, tt)) $
         assigns ! (bin ! (load ! (from ! (stop !)) (look ! 11 refl)) (load ! (from ! (stop !)) (look ! 10 refl)) tt) (from ! (stop !)) (init ! 12 refl (tt, tt)) $
-        assigns ! (of-opd ! (load ! (from ! (hop ! (look ! 12 refl) (stop !))) (look-in ! 23 (element ! w16 255 (segs .lasts) i _ lasts-are few-i refl (sub ! 2 refl (whole !)))))) (from ! (stop !)) (init ! 13 refl (tt, integer-fits w16 255 (segs .lasts) i lasts-are)) $
+        assigns ! (of-opd ! (load ! (from ! (hop ! (look ! 12 refl) (stop !))) (look-in ! 23 (integer ! w16 255 (segs .lasts) i _ lasts-are few-i refl (sub ! 2 refl (whole !)))))) (from ! (stop !)) (init ! 13 refl (tt, integer-fits w16 255 (segs .lasts) i lasts-are)) $
         assigns ! (bin ! (load ! (from ! (stop !)) (look ! 1 refl)) (lit ! tt) (record { fits = four-fits })) (from ! (stop !)) (init ! 14 refl (tt, record { fits = four-fits })) $
         assigns ! (addr ! (from ! (fld ! refl (stop !)))) (from ! (stop !)) (init ! 15 refl (tt, tt)) $
         assigns ! (bin ! (load ! (from ! (stop !)) (look ! 15 refl)) (load ! (from ! (stop !)) (look ! 14 refl)) tt) (from ! (stop !)) (init ! 16 refl (tt, tt)) $
-        assigns ! (of-opd ! (load ! (from ! (hop ! (look ! 16 refl) (stop !))) (look-in ! 23 (element ! w32 255 (segs .values) i _ values-are few-i refl (sub ! 3 refl (whole !)))))) (from ! (stop !)) (init ! 17 refl (tt, integer-fits w32 255 (segs .values) i values-are)) $
+        assigns ! (of-opd ! (load ! (from ! (hop ! (look ! 16 refl) (stop !))) (look-in ! 23 (integer ! w32 255 (segs .values) i _ values-are few-i refl (sub ! 3 refl (whole !)))))) (from ! (stop !)) (init ! 17 refl (tt, integer-fits w32 255 (segs .values) i values-are)) $
         -- the four are a segment, and the place in the list is found
         assigns ! (agg ! (and-then ! (load ! (from ! (stop !)) (look ! 5 refl)) (and-then ! (load ! (from ! (stop !)) (look ! 9 refl)) (and-then ! (load ! (from ! (stop !)) (look ! 13 refl)) (and-then ! (load ! (from ! (stop !)) (look ! 17 refl)) (no-more !)))))) (from ! (stop !)) (init ! 18 refl (segment-typed i)) $
         assigns ! (bin ! (load ! (from ! (stop !)) (look ! 1 refl)) (lit ! tt) (record { fits = place-fits })) (from ! (stop !)) (init ! 19 refl (tt, record { fits = place-fits })) $

@@ -1,4 +1,4 @@
--- `Walker::step` meets its contract: a walk of its MIR, by hand. The walker is taken apart, `slot::row_at` is called on its
+-- `Walker::step` meets its contract: a walk of its MIR, by hand. The walker is taken apart, `reader::row_at` is called on its
 -- slice and its number, and the result is made of the slice, the next number and the step.
 -- The walker is Copy: what it owns is had three times, for the callee, for the result and for the exit. Assumes nothing.
 use mathlib.Core.Path.{_≡_, refl, ap}
@@ -48,10 +48,10 @@ use Rattle.model.specs.Calls.{stepCase, stepOutcome, stepNext}
 use Rattle.model.specs.declared.Walked.{Walked}
 use Rattle.model.proofs.Walked as N
 use Rattle.model.proofs.Walked.Laws as N′
-use Rattle.slot.proofs.row_at as row-at
-use Rattle.slot.proofs.row_at.Symbol as row-at-def
-use Rattle.slot.proofs.row_at.Symbol.{name as #slot·row-at}
-use Rattle.slot.proofs.row_at.Met as row-at-thm
+use Rattle.reader.proofs.row_at as row-at
+use Rattle.reader.proofs.row_at.Symbol as row-at-def
+use Rattle.reader.proofs.row_at.Symbol.{name as #reader·row-at}
+use Rattle.reader.proofs.row_at.Met as row-at-thm
 use Rattle.lent.specs.declared.walker.Walker.{Walker}
 use Rattle.lent.specs.declared.walker.Stepped.{Stepped}
 use Rattle.lent.proofs.walker.Walker as T
@@ -177,7 +177,7 @@ module _ {M : Type 1} (𝓤 : URA M) (H : Heap 𝓤) (A : Atoms 𝓤) (W : Given
       let walker = LL.owes D L (d′ r) (LL.owed D L d _ isd .0, ((refl, next-fits r u is), tt)) in
       LL.lawful (S.the-type α) (S′.the-laws α) 𝓤 H A W .typed (made r) _ (LL.owes (S.the-type α) (S′.the-laws α) (made r) (walker, (LL.owed N.the-type N′.the-laws r _ is .0, tt))) .0
 
-  module _ (C : Calls 𝓤 H) (Λ : Loops 𝓤 H) (fm : FmC 𝓤 H (W .laws) C) (known : Triple 𝓤 (C #slot·row-at) (RowAt 𝓤 H A mem run)) where
+  module _ (C : Calls 𝓤 H) (Λ : Loops 𝓤 H) (fm : FmC 𝓤 H (W .laws) C) (known : Triple 𝓤 (C #reader·row-at) (RowAt 𝓤 H A mem run)) where
     walk : IsWalker → ent 𝓤 (onEntry 𝓤 H A step.signature (κ, tt) (q, tt) (d, tt) (mach ∷ [], tt)) (WpFn 𝓤 H C Λ code.function (mach ∷ []) Post)
     walk isd =
         let wt = typed isd in
@@ -200,7 +200,7 @@ module _ {M : Type 1} (𝓤 : URA M) (H : Heap 𝓤) (A : Atoms 𝓤) (W : Given
         move ! (15 ∷ 16 ∷ []) $ free1 ! $ move ! (13 ∷ 14 ∷ []) $ free1 ! $ move ! (11 ∷ 12 ∷ []) $ free1 ! $ move ! (9 ∷ 10 ∷ []) $ free1 ! $ move ! (7 ∷ 8 ∷ []) $ free1 ! $ move ! (5 ∷ 6 ∷ []) $ free1 ! $ move ! (3 ∷ 4 ∷ []) $ free1 ! $ free0 ! $
         by ! (exits r e (next-fits r u is)))))))))))))
 
-module _ {M : Type 1} (𝓤 : URA M) (H : Heap 𝓤) (A : Atoms 𝓤) (W : Given 𝓤 H A) (mem : Memory → SProp 𝓤) (run : Routine → Fun 𝓤) (𝓣 : Tables 𝓤 H) (known : Triple 𝓤 (𝓣 .C #slot·row-at) (RowAt 𝓤 H A mem run)) where
+module _ {M : Type 1} (𝓤 : URA M) (H : Heap 𝓤) (A : Atoms 𝓤) (W : Given 𝓤 H A) (mem : Memory → SProp 𝓤) (run : Routine → Fun 𝓤) (𝓣 : Tables 𝓤 H) (known : Triple 𝓤 (𝓣 .C #reader·row-at) (RowAt 𝓤 H A mem run)) where
   step-walks : Walks 𝓤 H A step.ended stayed (WpFn 𝓤 H (𝓣 .C) (𝓣 .Λ) code.function) (step.clauses 𝓤 H A mem run)
   step-walks = walked 𝓤 H A step.ended stayed (step.clauses 𝓤 H A mem run) (WpFn 𝓤 H (𝓣 .C) (𝓣 .Λ) code.function) (λ κs. (LL.vals (T.the-type (namedLft 1 0 tt κs)) (T′.the-laws (namedLft 1 0 tt κs)), tt)) (λ κs. (LL.tells (T.the-type (namedLft 1 0 tt κs)) (T′.the-laws (namedLft 1 0 tt κs)), tt))
       (λ κs qs bounds a g are. via 𝓤 _ (fst∗ 𝓤 _ (emp 𝓤)) (walk 𝓤 H A W mem run (κs .0) (qs .0) (a .0) (𝓣 .C) (𝓣 .Λ) (fmOf 𝓤 H (W .laws) 𝓣) known (are .0)))
@@ -214,4 +214,4 @@ step-spec 𝓤 H 𝓜 𝓖 𝓡 =
     entered 𝓤 H (tripleOf 𝓤 H (𝓖 .A) step.signature (step.spec 𝓤 H (𝓖 .A) (𝓜 .mem) (𝓡 .run)))
     (tables 𝓤 H 𝓜 𝓡 code.env .C) (tables 𝓤 H 𝓜 𝓡 code.env .Λ) #lent·walker·Walker·step code.function (code.unfolded 𝓤 H 𝓜 𝓡)
     (step-meets 𝓤 H (𝓖 .A) (givenOf 𝓤 H 𝓜 𝓖) (𝓜 .mem) (𝓡 .run) (tablesOf 𝓤 H 𝓜 (tables 𝓤 H 𝓜 𝓡 code.env))
-    (cited 𝓤 H (RowAt 𝓤 H (𝓖 .A) (𝓜 .mem) (𝓡 .run)) 𝓜 𝓡 code.env #slot·row-at row-at-def.routine code.calls-slot·row-at (row-at-thm.met 𝓤 H 𝓜 𝓖 𝓡)))
+    (cited 𝓤 H (RowAt 𝓤 H (𝓖 .A) (𝓜 .mem) (𝓡 .run)) 𝓜 𝓡 code.env #reader·row-at row-at-def.routine code.calls-reader·row-at (row-at-thm.met 𝓤 H 𝓜 𝓖 𝓡)))

@@ -1,0 +1,2 @@
+-- What a block costs.
+pub mod Filled

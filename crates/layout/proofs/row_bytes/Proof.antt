@@ -1,0 +1,73 @@
+-- `layout::row_bytes` meets its contract: each byte is a digit of its number to the base 256. Assumes nothing.
+use borrow.Author.Needs.{needs}
+use Rattle.model.specs.Slot.{rowBytes}
+use Rattle.model.specs.Calls.{rowSpan}
+use Rattle.theory.proofs.Numbers.{two-bytes, four-bytes}
+use Rattle.layout.proofs.row_bytes.Statement.{statement}
+use Rattle.layout.proofs.row_bytes.Tie as tie
+
+cast-first : tie.Need-cast-first
+cast-first c = search needs
+
+cast-last : tie.Need-cast-last
+cast-last c = search needs
+
+cast-value : tie.Need-cast-value
+cast-value c = search needs
+
+low-requires : tie.Need-low-requires
+low-requires c κs = search needs
+
+low-requires-2 : tie.Need-low-requires-2
+low-requires-2 c κs = search needs
+
+low-requires-3 : tie.Need-low-requires-3
+low-requires-3 c κs = search needs
+
+low-requires-4 : tie.Need-low-requires-4
+low-requires-4 c κs = search needs
+
+low-requires-5 : tie.Need-low-requires-5
+low-requires-5 c κs = search needs
+
+low-requires-6 : tie.Need-low-requires-6
+low-requires-6 c κs = search needs
+
+low-requires-7 : tie.Need-low-requires-7
+low-requires-7 c κs = search needs
+
+low-requires-8 : tie.Need-low-requires-8
+low-requires-8 c κs = search needs
+
+returns : tie.Need-returns
+unfolding rowBytes rowSpan
+returns c =
+    simp (
+      two-bytes,
+      four-bytes,
+      c .before .before .before .before .before .before .before .low .ensures,
+      c .before .before .before .before .before .before .low2 .ensures,
+      c .before .before .before .before .before .low3 .ensures,
+      c .before .before .before .before .low4 .ensures,
+      c .before .before .before .low5 .ensures,
+      c .before .before .low6 .ensures,
+      c .before .low7 .ensures,
+      c .low8 .ensures,
+    )
+
+pub row-bytes-spec : {M : Type 1} → statement M
+row-bytes-spec =
+    tie.close
+    (tie.spec
+    cast-first
+    cast-last
+    cast-value
+    low-requires
+    low-requires-2
+    low-requires-3
+    low-requires-4
+    low-requires-5
+    low-requires-6
+    low-requires-7
+    low-requires-8
+    returns)

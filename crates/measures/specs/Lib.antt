@@ -1,0 +1,2 @@
+-- Segments in arrays, as what is measured of them.
+pub mod Held

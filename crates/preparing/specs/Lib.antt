@@ -1,0 +1,2 @@
+-- What a query prepares before it writes.
+pub mod Prepared

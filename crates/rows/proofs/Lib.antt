@@ -1,0 +1,2 @@
+-- Laws of the blocks and rows between cuts, over plain values.
+pub mod Cut

@@ -1,0 +1,2 @@
+-- The blocks and rows between cuts.
+pub mod Between

@@ -1,0 +1,19 @@
+-- `slot::place_of` meets its contract. Assumes nothing.
+use mathlib.Core.Path.{refl}
+use borrow.Author.Needs.{needs}
+use Rattle.slot.specs.Places.{placeOf}
+use Rattle.slot.proofs.place_of.Statement.{statement}
+use Rattle.slot.proofs.place_of.Tie as tie
+
+mul-result : tie.Need-mul-result
+mul-result c = search needs
+
+add-result : tie.Need-add-result
+add-result c = search needs
+
+returns : tie.Need-returns
+unfolding placeOf
+returns c = refl
+
+pub place-of-spec : {M : Type 1} → statement M
+place-of-spec = tie.close (tie.spec mul-result add-result returns)

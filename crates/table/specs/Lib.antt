@@ -1,0 +1,2 @@
+-- What the code's numbers and arrays stand for.
+pub mod Held

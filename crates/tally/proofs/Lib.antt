@@ -1,0 +1,3 @@
+-- Laws of the records of one group.
+pub mod Stops
+pub mod Loads

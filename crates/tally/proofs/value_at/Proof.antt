@@ -1,0 +1,70 @@
+-- `tally::value_at` meets its contract, kind by kind. Assumes nothing.
+use borrow.Author.Needs.{needs}
+use Prim.Native.Nat.{ℕ}
+use mathlib.Core.List.{List}
+use mathlib.Core.Option.{some}
+use mathlib.Core.Path.{sym, ap, _∙_}
+use Rattle.tally.specs.Tally.{ownsIn, loadsAt, surveyed}
+use Rattle.tally.specs.declared.Here.{Here}
+use Rattle.tally.proofs.Loads.{sum-value, count-value, other-value}
+use Rattle.tally.proofs.value_at.Statement.{statement}
+use Rattle.tally.proofs.value_at.Tie as tie
+
+-- the loads at the frame
+abbrev loads : tie.Start → List ℕ
+loads s = loadsAt (s .args .a) (ownsIn (s .args .firsts .now) (s .args .lasts .now) (s .args .loads .now) (s .args .own))
+
+wide-requires : tie.Need-wide-requires
+wide-requires c κs = search needs
+
+least-requires : tie.Need-least-requires
+least-requires c κs = search needs
+
+wide-requires-2 : tie.Need-wide-requires-2
+wide-requires-2 c κs = search needs
+
+greatest-requires : tie.Need-greatest-requires
+greatest-requires c κs = search needs
+
+wide-requires-3 : tie.Need-wide-requires-3
+wide-requires-3 c κs = search needs
+
+returns : tie.Need-returns
+unfolding surveyed
+returns c =
+    let s = c .before in
+    rw (c .match .keys1) (sum-value (loads s) (s .pre .1 .1) ∙ ap (λ (here : Here). some (here .sum)) (sym (s .pre .1 .0)))
+
+returns-2 : tie.Need-returns-2
+unfolding surveyed
+returns-2 c =
+    let s = c .before .before in
+    rw (c .before .match .keys2, c .wide .ensures)
+    (count-value (loads s) (s .pre .1 .1) ∙ ap (λ (here : Here). some (here .count)) (sym (s .pre .1 .0)))
+
+returns-3 : tie.Need-returns-3
+returns-3 c = rw (c .before .before .match .keys3, c .wide2 .ensures) (c .before .least .ensures)
+
+returns-4 : tie.Need-returns-4
+returns-4 c = rw (c .before .before .match .keys4, c .wide3 .ensures) (c .before .greatest .ensures)
+
+returns-5 : tie.Need-returns-5
+returns-5 c =
+    let s = c .before in
+    let r = c .match .rest in
+    other-value (s .args .kind) (loads s) (s .pre .1 .1) (r .0 .0 .0 .1) (r .0 .0 .1) (r .0 .1) (r .1)
+
+pub value-at-spec : {M : Type 1} → statement M
+value-at-spec =
+    tie.close
+    (tie.spec
+    wide-requires
+    least-requires
+    wide-requires-2
+    greatest-requires
+    wide-requires-3
+    returns
+    returns-2
+    returns-3
+    returns-4
+    returns-5)

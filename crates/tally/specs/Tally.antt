@@ -1,0 +1,60 @@
+-- The records of one group, and what they say at a frame: the last frame before their next event, the loads of those that hold
+-- the frame, and its value.
+use Prim.Native.Nat.{ℕ, _-_, min}
+use mathlib.Core.Bool.{Bool, _&&_, cond}
+use mathlib.Core.List.{List, [], _∷_}
+use mathlib.Core.Option.{Option}
+use mathlib.Core.Path.{_≡_}
+use lib.Dec.{leb, ltb, eqb}
+use lib.ListN.{length, getD}
+use Rattle.model.specs.Common.{listFrom}
+use Rattle.model.specs.Spans.{Span}
+use Rattle.model.specs.Log.{sum, aggregated}
+use Rattle.tally.specs.declared.Own.{Own}
+use Rattle.tally.specs.declared.Here.{Here}
+
+-- record i of the group, from a list for each field
+abbrev pub ownIn : List ℕ → List ℕ → List ℕ → ℕ → Own
+ownIn firsts lasts loads i = record { first = getD firsts i 0; last = getD lasts i 0; load = getD loads i 0 }
+
+-- the first `count` of them
+abbrev pub ownsIn : List ℕ → List ℕ → List ℕ → ℕ → List Own
+ownsIn firsts lasts loads count = listFrom 0 count (ownIn firsts lasts loads)
+
+-- each list has 128 places
+abbrev pub Sized : List ℕ → List ℕ → List ℕ → Type 0
+Sized firsts lasts loads = (length firsts ≡ 128) × (length lasts ≡ 128) × (length loads ≡ 128)
+
+-- the records of group g
+unfoldable pub onlyOf : ℕ → List (Span ℕ) → List Own
+onlyOf g [] = []
+onlyOf g (r ∷ rs) =
+    cond (eqb (r .group) g)
+    (record { first = r .first; last = r .last; load = r .value } ∷ onlyOf g rs)
+    (onlyOf g rs)
+
+-- the record holds frame a
+abbrev pub held : ℕ → Own → Bool
+held a r = leb (r .first) a && leb a (r .last)
+
+-- the loads of the records that hold frame a
+unfoldable pub loadsAt : ℕ → List Own → List ℕ
+loadsAt a [] = []
+loadsAt a (r ∷ rs) = cond (held a r) (r .load ∷ loadsAt a rs) (loadsAt a rs)
+
+-- the last frame up to which the record holds each frame from a on, or holds none of them
+unfoldable pub stopOf : ℕ → Own → ℕ
+stopOf a r = cond (ltb a (r .first)) (r .first - 1) (cond (leb a (r .last)) (r .last) 65535)
+
+-- the same of all records: the last frame before the next event behind frame a, 65,535 if there is none
+unfoldable pub stopAt : ℕ → List Own → ℕ
+stopAt a [] = 65535
+stopAt a (r ∷ rs) = min (stopOf a r) (stopAt a rs)
+
+-- what is found at frame a
+unfoldable pub surveyed : ℕ → List Own → Here
+surveyed a own = record { stop = stopAt a own; count = length (loadsAt a own); sum = sum (loadsAt a own) }
+
+-- the value of a frame by the records of its group alone
+unfoldable pub ownValue : ℕ → List Own → ℕ → ℕ → Option ℕ
+ownValue kind own g f = aggregated kind (loadsAt f own)

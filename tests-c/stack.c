@@ -1,0 +1,204 @@
+/* How much stack each call of the C interface needs.
+ *
+ * Each call runs on a stack of its own that was filled with one byte. What lies between the frame
+ * that makes the call and the deepest byte that changed is what the call needs. Prints a table,
+ * the most over several inputs for each row, and ends with status 1 if a call is refused or
+ * answered unexpectedly or needs more than the header says.
+ *
+ * From the repository's root, with the archive in target/staticlib:
+ *
+ *   gcc -std=c11 -Wall -Wextra -Werror -Iinclude tests-c/stack.c \
+ *       target/staticlib/libcapi.a -o target/stack && target/stack
+ */
+#define _XOPEN_SOURCE 700
+#include <stdint.h>
+#include <stdio.h>
+#include <string.h>
+#include <ucontext.h>
+
+#include "pacer.h"
+
+enum { STACK = 1 << 20, FILL = 0xA5 };
+
+static _Alignas(4096) uint8_t stack[STACK];
+static ucontext_t here, there;
+
+/* The call to be measured, and the frame that made it. */
+static void (*measured)(void);
+static uint8_t *caller;
+
+static void enter(void)
+{
+    measured();
+}
+
+/* The stack that a call needs, in bytes. */
+static size_t need(void (*call)(void))
+{
+    memset(stack, FILL, STACK);
+    measured = call;
+    getcontext(&there);
+    there.uc_stack.ss_sp = stack;
+    there.uc_stack.ss_size = STACK;
+    there.uc_link = &here;
+    makecontext(&there, enter, 0);
+    swapcontext(&here, &there);
+    size_t deepest = 0;
+    while (stack[deepest] == FILL)
+        deepest++;
+    return (size_t)(caller - (stack + deepest));
+}
+
+/* ---- The calls and their inputs ---------------------------------------------------------- */
+
+static uint8_t log_bytes[128 * PACER_RECORD_BYTES];
+static size_t log_length;
+static uint8_t kind, rule;
+static uint16_t bound;
+static uint8_t slot[PACER_SLOT_BYTES];
+static size_t number;
+static struct pacer_segment segment_list[PACER_SEGMENT_PLACES];
+static struct pacer_row row_list[PACER_ROW_PLACES];
+static uint8_t record[PACER_RECORD_BYTES];
+
+/* The question of the last answer, 0 if it was accepted. */
+static uint8_t question;
+
+#define CALL(name, call)                      \
+    static void name(void)                    \
+    {                                         \
+        caller = __builtin_frame_address(0);  \
+        question = (call).question;           \
+    }
+CALL(write_record, pacer_write_record(7, 0, 65535, 1000, record, sizeof record))
+CALL(query, pacer_query(kind, rule, bound, log_bytes, log_length, slot, sizeof slot))
+CALL(segments,
+     pacer_segments(log_bytes, log_length, kind, segment_list, PACER_SEGMENT_PLACES))
+CALL(read, pacer_read(slot, sizeof slot))
+CALL(read_rows, pacer_read_rows(slot, sizeof slot, row_list, PACER_ROW_PLACES))
+CALL(row_at, pacer_row_at(slot, sizeof slot, number))
+CALL(lookup, pacer_lookup(slot, sizeof slot, 0, (uint16_t)number))
+
+/* A number that looks random. */
+static unsigned noise(unsigned i)
+{
+    return (i * 2654435761u) >> 16;
+}
+
+/* Makes a log with n segments in one run. */
+static void make_log(unsigned n)
+{
+    unsigned count = n <= 128 ? n : (n + 1) / 2;
+    for (unsigned i = 0; i < count; i++) {
+        /* Neighbours differ in their last digit; from 129 segments on each record shares its last
+         * frame with the next one's first, and two loads are more than one. */
+        unsigned first = n <= 128 ? i : 2 * i;
+        unsigned last = n <= 128 ? i : 2 * i + 2;
+        unsigned load = 1 + noise(i) % 400 * 2 + i % 2;
+        pacer_write_record(0, (uint16_t)first, (uint16_t)last, (uint16_t)load,
+                           log_bytes + PACER_RECORD_BYTES * i, PACER_RECORD_BYTES);
+    }
+    log_length = PACER_RECORD_BYTES * count;
+}
+
+/* ---- The table --------------------------------------------------------------------------- */
+
+static int failures = 0;
+
+/* Keeps the larger of the stack so far and that of a call, which must be answered by a question. */
+static void most(size_t *so_far, void (*call)(void), uint8_t expected)
+{
+    call();
+    size_t needed = need(call);
+    if (question != expected) {
+        printf("question %d got 'no', expected %d\n", question, expected);
+        failures++;
+    }
+    if (needed > *so_far)
+        *so_far = needed;
+}
+
+/* Prints a row; the header says how much the call needs at most. */
+static void row(const char *what, size_t needed, size_t said)
+{
+    printf("%-34s %8zu %8zu\n", what, needed, said);
+    if (needed > said) {
+        printf("%s needs more than the header says\n", what);
+        failures++;
+    }
+}
+
+/* All kinds and bounds on a log of n segments, and refusals by questions 6 and 10. */
+static size_t query_need(unsigned n)
+{
+    static const struct {
+        uint8_t rule;
+        uint16_t bound;
+        uint8_t question;
+    } bounds[] = {
+        {PACER_ROWS, 0, 10},   {PACER_ROWS, 1, 0},      {PACER_ROWS, 2, 0},
+        {PACER_ROWS, 64, 0},   {PACER_SHARE, 1000, 0}, {PACER_SHARE, 900, 0},
+    };
+    size_t needed = 0;
+    make_log(n);
+    for (kind = PACER_SUM; kind <= PACER_GREATEST; kind++) {
+        for (size_t i = 0; i < sizeof bounds / sizeof bounds[0]; i++) {
+            rule = bounds[i].rule;
+            bound = bounds[i].bound;
+            most(&needed, query, bounds[i].question);
+        }
+    }
+    log_bytes[0]++;
+    kind = PACER_SUM;
+    most(&needed, query, 6);
+    make_log(n);
+    return needed;
+}
+
+int main(void)
+{
+    size_t needed;
+    static const unsigned sizes[] = {6, 8, 32, 64, 128, 255};
+    printf("%-34s %8s %8s\n", "bytes of stack", "needed", "header");
+    for (size_t i = 0; i < sizeof sizes / sizeof sizes[0]; i++) {
+        char what[40];
+        snprintf(what, sizeof what, "pacer_query, %u segments", sizes[i]);
+        row(what, query_need(sizes[i]),
+            sizes[i] <= 32 ? PACER_SMALL_QUERY_STACK : PACER_QUERY_STACK);
+    }
+
+    needed = 0;
+    make_log(255);
+    for (kind = PACER_SUM; kind <= PACER_GREATEST; kind++)
+        most(&needed, segments, 0);
+    row("pacer_segments", needed, PACER_SEGMENTS_STACK);
+
+    needed = 0;
+    most(&needed, write_record, 0);
+    row("pacer_write_record", needed, PACER_SLOT_STACK);
+
+    /* A slot of 64 rows, at its first and last row and past them, and the same slot with a byte
+     * after its last row. */
+    kind = PACER_SUM;
+    rule = PACER_ROWS;
+    bound = 64;
+    query();
+    static const uint16_t numbers[] = {0, 63, 64, 510, 65535};
+    static void (*const calls[])(void) = {read, read_rows, row_at, lookup};
+    static const char *const names[] = {"pacer_read", "pacer_read_rows", "pacer_row_at",
+                                        "pacer_lookup"};
+    for (size_t i = 0; i < sizeof calls / sizeof calls[0]; i++) {
+        needed = 0;
+        slot[PACER_SLOT_BYTES - 1] = 0;
+        for (size_t j = 0; j < sizeof numbers / sizeof numbers[0]; j++) {
+            number = numbers[j];
+            most(&needed, calls[i], 0);
+        }
+        slot[PACER_SLOT_BYTES - 1] = 1;
+        most(&needed, calls[i], 17);
+        row(names[i], needed, PACER_SLOT_STACK);
+    }
+    if (failures == 0)
+        printf("stack: ok\n");
+    return failures != 0;
+}
