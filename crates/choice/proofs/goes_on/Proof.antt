@@ -1,11 +1,17 @@
 -- `goes_on` meets its contract. Assumes nothing.
+use mathlib.Core.Bool.{false}
+use mathlib.Core.Path.{_≡_}
+use lib.Dec.{ltb}
 use borrow.Author.Tests.{lt-ltb, le-ltb}
 use borrow.Author.Needs.{needs}
 use Rattle.choice.proofs.goes_on.Statement.{statement}
 use Rattle.choice.proofs.goes_on.Tie as tie
 
 returns : tie.Need-returns
-returns c = rw (le-ltb _ _ (c .if1 .taken))
+returns c =
+    let a = c .before .args in
+    let ends : ltb (a .k) (a .last) ≡ false = le-ltb (a .k) (a .last) (c .if1 .taken) in
+    rw ends
 
 met-requires : tie.Need-met-requires
 met-requires c κs = search needs
