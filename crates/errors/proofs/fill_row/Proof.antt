@@ -40,6 +40,16 @@ with-segment-requires : tie.Need-with-segment-requires Inv-loop μ-loop
 with-segment-requires c κs =
     growing (c .before .before .before .pre .0 .1) (c .before .loop .at) (c .before .before .before .args .i) _ (omega arith) (omega arith) (omega arith) (c .before .loop .inv .2)
 
+-- stated before what `error` asks for, so that a wrong error is refused as such
+loop-again : tie.Need-loop-again Inv-loop μ-loop
+loop-again c =
+    let l = c .before .before .before in (
+      omega arith,
+      omega arith,
+      wider (c .before),
+      row-next _ _ _ _ _ _ (l .loop .inv .3) (omega arith) (omega arith) (omega arith) (block-error _ _ _ (wider (c .before)) (c .error .ensures)),
+    )
+
 error-requires : tie.Need-error-requires Inv-loop μ-loop
 error-requires c κs = subst Block (sym (wider c)) (c .before .before .before .before .pre .0 .1 .blocks _ _ (omega arith) (omega arith))
 
@@ -54,15 +64,6 @@ slice-write-errors c = omega arith
 
 loop-less : tie.Need-loop-less Inv-loop μ-loop
 loop-less c = omega arith
-
-loop-again : tie.Need-loop-again Inv-loop μ-loop
-loop-again c =
-    let l = c .before .before .before in (
-      omega arith,
-      omega arith,
-      wider (c .before),
-      row-next _ _ _ _ _ _ (l .loop .inv .3) (omega arith) (omega arith) (omega arith) (block-error _ _ _ (wider (c .before)) (c .error .ensures)),
-    )
 
 same-length : tie.Need-same-length Inv-loop μ-loop
 same-length c = omega arith

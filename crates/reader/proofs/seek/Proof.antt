@@ -49,7 +49,10 @@ turn c =
     (sym (value-turn (slotRow (now (s .slot))) (s .group) (s .frame) (l .loop .next) (s .count) (omega arith)) ∙ l .loop .inv .1)
 
 returns : tie.Need-returns Inv-loop μ-loop
-returns c = (omega arith, rw (lt-ltb _ _ (c .before .before .before .loop-test .taken)) (sym (rw (c .if1 .taken) at (turn (c .before)))))
+returns c =
+    let l = c .before .before .before .before in
+    let inside = lt-ltb (l .loop .next) (l .before .before .args .count) (c .before .before .before .loop-test .taken) in
+    (omega arith, rw inside (sym (rw (c .if1 .taken) at (turn (c .before)))))
 
 add-next : tie.Need-add-next Inv-loop μ-loop
 add-next c = omega arith

@@ -7,7 +7,7 @@ use Rattle.model.specs.Blocks.{Totals, nearest, rowOf, rowValue}
 use Rattle.model.specs.Room.{Room}
 use Rattle.blocks.proofs.Bounds.{nearest-le}
 use Rattle.blocks.specs.Meaning.{totalsIn}
-use Rattle.measures.proofs.Growing.{totals-plain}
+use Rattle.measures.proofs.Growing.{totals-plain, measurable-prefix}
 use borrow.Author.Needs.{needs}
 use Rattle.rows.proofs.row.Statement.{statement}
 use Rattle.rows.proofs.row.Tie as tie
@@ -16,7 +16,7 @@ sub-last : tie.Need-sub-last
 sub-last c = search needs
 
 block-totals-requires : tie.Need-block-totals-requires
-block-totals-requires c κs = search needs
+block-totals-requires c κs = (omega arith, measurable-prefix (c .pre .1) _ (omega arith))
 
 element-copy-out-t11 : tie.Need-element-copy-out-t11
 element-copy-out-t11 c = search needs
