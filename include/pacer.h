@@ -9,7 +9,7 @@
  * others), and nothing that was lent is changed. The questions are:
  *
  *    1  Is the lent buffer or list long enough (slot 768, segments 255, rows 64, record 9)?
- *    2  Is the kind 0 to 3?
+ *    2  Is the kind 0 to 4?
  *    3  Is the row limit at most 64, or the share at most 1,000?
  *    4  Is the log's length a multiple of 9?
  *    5  Has it at most 128 records?
@@ -19,7 +19,7 @@
  *    9  Is the load at most 1,000?
  *   10  Is the row limit at least the count of runs; with a share, do 64 rows or fewer meet it?
  *   11  Header mark right?
- *   12  Slot's kind 0 to 3?
+ *   12  Slot's kind 0 to 4?
  *   13  Row count at most 64?
  *   14  Row mark right?
  *   15  Row's group 0 to 7, first at most last, value at most 128,000?
@@ -40,7 +40,7 @@
 #include <stdint.h>
 
 /* The version of the library that this header describes. */
-#define PACER_VERSION "0.8.0"
+#define PACER_VERSION "0.9.0"
 
 #ifdef __cplusplus
 extern "C" {
@@ -69,7 +69,8 @@ enum {
     PACER_SUM = 0,      /* sum of the loads */
     PACER_COUNT = 1,    /* count of records */
     PACER_LEAST = 2,    /* least load */
-    PACER_GREATEST = 3  /* greatest load */
+    PACER_GREATEST = 3, /* greatest load */
+    PACER_MEAN = 4      /* mean load in hundredths: 100 * sum / count, rounded down */
 };
 
 /* What the bound of a query is. */

@@ -67,6 +67,15 @@ static const struct pacer_row rows_g[4] = {
     {0, 0, 1, 100}, {0, 2, 6, 242}, {0, 9, 10, 50}, {1, 0, 0, 7},
 };
 
+/* The same for kind 4, the mean load in hundredths. */
+static const struct pacer_segment mean_segments_g[6] = {
+    {0, 0, 1, 10000}, {0, 2, 3, 15000},  {0, 4, 5, 20000},
+    {0, 6, 6, 21000}, {0, 9, 10, 5000}, {1, 0, 0, 700},
+};
+static const struct pacer_row mean_rows_g[4] = {
+    {0, 0, 3, 12500}, {0, 4, 6, 20333}, {0, 9, 10, 5000}, {1, 0, 0, 700},
+};
+
 /* The slot's bytes for c = 4, from the layout: header, four rows, zeros. 11,280 is 2C10. */
 static const uint8_t slot_g[PACER_SLOT_BYTES] = {
     0x50, 0x48, 0x00, 0x04, 0x10, 0x2C, 0x00, 0x00, 0x00, 0x00, 0x00, 0x00,
@@ -123,20 +132,26 @@ static void test_segments(const uint8_t *log)
     for (size_t i = 0; i < places; i++)
         list[i] = (struct pacer_segment){9, 10, 11, 12};
     SAME(pacer_segments(log, 45, PACER_SUM, list, 254).question, 1);
-    SAME(pacer_segments(log, 45, 4, list, places).question, 2);
+    SAME(pacer_segments(log, 45, PACER_MEAN + 1, list, places).question, 2);
     SAME(list[0].group, 9);
 
-    struct pacer_segments_answer a = pacer_segments(log, 45, PACER_SUM, list, places);
-    SAME(a.question, 0);
-    SAME(a.index, 0);
-    SAME(a.count, 6);
-    for (size_t i = 0; i < places; i++) {
-        const struct pacer_segment expected =
-            i < 6 ? segments_g[i] : (struct pacer_segment){9, 10, 11, 12};
-        SAME(list[i].group, expected.group);
-        SAME(list[i].first, expected.first);
-        SAME(list[i].last, expected.last);
-        SAME(list[i].value, expected.value);
+    static const struct {
+        uint8_t kind;
+        const struct pacer_segment *segments;
+    } cases[] = {{PACER_MEAN, mean_segments_g}, {PACER_SUM, segments_g}};
+    for (size_t c = 0; c < sizeof cases / sizeof cases[0]; c++) {
+        struct pacer_segments_answer a = pacer_segments(log, 45, cases[c].kind, list, places);
+        SAME(a.question, 0);
+        SAME(a.index, 0);
+        SAME(a.count, 6);
+        for (size_t i = 0; i < places; i++) {
+            const struct pacer_segment expected =
+                i < 6 ? cases[c].segments[i] : (struct pacer_segment){9, 10, 11, 12};
+            SAME(list[i].group, expected.group);
+            SAME(list[i].first, expected.first);
+            SAME(list[i].last, expected.last);
+            SAME(list[i].value, expected.value);
+        }
     }
 }
 
@@ -167,8 +182,9 @@ static void test_query(const uint8_t *log, uint8_t *slot, size_t length)
     /* Refusals leave the slot unchanged. */
     fill(before, sizeof before);
     memcpy(slot, before, length);
-    SAME(pacer_query(4, 0, 65, log, 44, slot, 767).question, 1);
-    SAME(pacer_query(4, 0, 65, log, 44, slot, length).question, 2);
+    SAME(pacer_query(5, 0, 65, log, 44, slot, 767).question, 1);
+    SAME(pacer_query(5, 0, 65, log, 44, slot, length).question, 2);
+    SAME(pacer_query(4, 0, 65, log, 44, slot, length).question, 3);
     SAME(pacer_query(0, 0, 4, log, 44, slot, length).question, 3);
     SAME(pacer_query(0, PACER_ROWS, 65, log, 44, slot, length).question, 3);
     SAME(pacer_query(0, PACER_SHARE, 1001, log, 44, slot, length).question, 3);
@@ -193,6 +209,28 @@ static void test_query(const uint8_t *log, uint8_t *slot, size_t length)
     BYTES(slot + PACER_SLOT_BYTES, before + PACER_SLOT_BYTES, length - PACER_SLOT_BYTES);
 }
 
+/* Kind 4 by way of query, reader and lookup: its rows are cut at other frames than those of kind 0. */
+static void test_mean(const uint8_t *log)
+{
+    static uint8_t slot[PACER_SLOT_BYTES];
+    static struct pacer_row list[PACER_ROW_PLACES];
+
+    ANSWER(pacer_query(PACER_MEAN, PACER_ROWS, 4, log, 45, slot, sizeof slot), 0, 0, 4, 25666667, 16);
+    const struct pacer_read_answer a = pacer_read_rows(slot, sizeof slot, list, PACER_ROW_PLACES);
+    SAME(a.question, 0);
+    SAME(a.kind, PACER_MEAN);
+    SAME(a.rows, 4);
+    SAME(a.error, 25666667);
+    for (size_t i = 0; i < 4; i++) {
+        SAME(list[i].group, mean_rows_g[i].group);
+        SAME(list[i].first, mean_rows_g[i].first);
+        SAME(list[i].last, mean_rows_g[i].last);
+        SAME(list[i].value, mean_rows_g[i].value);
+    }
+    SAME(pacer_lookup(slot, sizeof slot, 0, 3).value, 12500);
+    SAME(pacer_lookup(slot, sizeof slot, 0, 4).value, 20333);
+}
+
 static void test_read(uint8_t *slot, size_t length)
 {
     struct pacer_read_answer a = pacer_read(slot, length);
@@ -210,7 +248,7 @@ static void test_read(uint8_t *slot, size_t length)
         uint8_t question;
         size_t index;
     } cases[] = {
-        {0, 0x51, 11, 0},  {1, 0x49, 11, 0},  {2, 4, 12, 0},       {3, 65, 13, 0},
+        {0, 0x51, 11, 0},  {1, 0x49, 11, 0},  {2, 5, 12, 0},       {3, 65, 13, 0},
         {23, 0x51, 14, 1}, {25, 8, 15, 1},    {26, 7, 15, 1},      {33, 2, 15, 1},
         {26, 1, 16, 1},    {3, 3, 17, 0},     {767, 1, 17, 0},     {3, 5, 14, 4},
     };
@@ -328,6 +366,7 @@ int main(void)
     test_write_record(log);
     test_segments(log);
     test_query(log, slot, sizeof slot);
+    test_mean(log);
     test_read(slot, sizeof slot);
     test_read_rows(slot, sizeof slot);
     test_row_at(slot, sizeof slot);

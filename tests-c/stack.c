@@ -141,7 +141,7 @@ static size_t query_need(unsigned n)
     };
     size_t needed = 0;
     make_log(n);
-    for (kind = PACER_SUM; kind <= PACER_GREATEST; kind++) {
+    for (kind = PACER_SUM; kind <= PACER_MEAN; kind++) {
         for (size_t i = 0; i < sizeof bounds / sizeof bounds[0]; i++) {
             rule = bounds[i].rule;
             bound = bounds[i].bound;
@@ -169,7 +169,7 @@ int main(void)
 
     needed = 0;
     make_log(255);
-    for (kind = PACER_SUM; kind <= PACER_GREATEST; kind++)
+    for (kind = PACER_SUM; kind <= PACER_MEAN; kind++)
         most(&needed, segments, 0);
     row("pacer_segments", needed, PACER_SEGMENTS_STACK);
 

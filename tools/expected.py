@@ -14,6 +14,7 @@ fractions, by the shortest way from the words and not the fastest.
 """
 
 import itertools
+import math
 import random
 import sys
 from fractions import Fraction
@@ -39,9 +40,18 @@ def records_of(log):
     ]
 
 
+def mean_in_hundredths(loads):
+    """100 times the sum of the loads divided by their count, rounded down."""
+    return math.floor(Fraction(100 * sum(loads), len(loads)))
+
+
+AGGREGATES = [sum, len, min, max, mean_in_hundredths]
+KINDS = range(len(AGGREGATES))
+
+
 def aggregate(kind, loads):
     """The value of a frame that lies in records with these loads."""
-    return [sum, len, min, max][kind](loads)
+    return AGGREGATES[kind](loads)
 
 
 def segments_of(log, kind):
@@ -183,7 +193,7 @@ def reduction(segments, rule, bound):
 def questions(kind, rule, bound, log):
     """Number, index and answer of the questions ahead of 10, in order. The slot is the
     program's own and long enough."""
-    yield 2, 0, kind <= 3
+    yield 2, 0, kind in KINDS
     yield 3, 0, (rule == ROWS and bound <= 64) or (rule == SHARE and bound <= 1000)
     yield 4, 0, len(log) % 9 == 0
     yield 5, 0, len(log) // 9 <= 128
@@ -249,7 +259,7 @@ def frames(loads, group=0, start=0):
 def played_through():
     """The cases of 'A log played through'."""
     g = log_of(LOG_G)
-    for kind in range(4):
+    for kind in KINDS:
         for c in list(range(0, 8)) + [63, 64, 65, 66, 255, 256, 65535]:
             yield case(kind, ROWS, c, g)
         for p in [0, 1, 2, 100, 281, 282, 283, 500, 999, 1000, 1001, 1002, 65535]:
@@ -262,7 +272,7 @@ def played_through():
         yield case(0, ROWS, c, b"")
         yield case(0, SHARE, c, b"")
     # The last frame of all, alone, at the end of a record and beside other groups.
-    for kind in range(4):
+    for kind in KINDS:
         yield case(kind, ROWS, 64, log_of([(0, 65535, 65535, 1000)]))
         yield case(kind, ROWS, 64, log_of([(0, 0, 65535, 1000), (0, 65535, 65535, 1)]))
         yield case(kind, ROWS, 64, log_of([(0, 65530, 65535, 9), (0, 65533, 65535, 4),
@@ -283,7 +293,7 @@ def published():
     """The examples of the source documents."""
     for example in (PROJ, PATIENTS):
         log = log_of(example)
-        for kind in range(4):
+        for kind in KINDS:
             for c in range(0, 11):
                 yield case(kind, ROWS, c, log)
             for p in (0, 2, 5, 10, 20, 24, 25, 67, 68, 150, 182, 183, 184, 185, 276, 500, 1000):
@@ -316,7 +326,7 @@ def refusals():
     yield case(0, ROWS, 9, record(*good) * 1000 + b"L")
     # Kinds, letters and bounds, alone and together.
     g = log_of(LOG_G)
-    for kind in (4, 5, 0x52, 127, 128, 255):
+    for kind in (5, 6, 0x52, 127, 128, 255):
         yield case(kind, ROWS, 4, g)
         yield case(kind, 0x00, 65, g[:-1])
     for letter in (0x00, 0x01, 0x44, 0x46, 0x51, 0x53, 0x65, 0x72, 0xFF):
@@ -348,6 +358,7 @@ def short_inputs():
     yield bytes([0, ROWS, 0, 0])
     yield bytes([3, SHARE, 0, 0])
     yield bytes([4, SHARE, 0, 0])
+    yield bytes([5, SHARE, 0, 0])
     yield bytes([0, ROWS, 64, 0])
     yield bytes([0, ROWS, 0, 64])
 
@@ -358,13 +369,33 @@ def longest():
     chain = [(4, 2 * i, 2 * i + 2, 1 + (i * i) % 11) for i in range(128)]
     steps = frames([(7 * i) % 13 for i in range(128)], group=6, start=65408)
     eighths = [(i // 16, 3 * (i % 16), 3 * (i % 16) + 3, (i * 37) % 101) for i in range(128)]
-    for log, kinds in ((stairs, (0, 1)), (chain, (0, 3)), (steps, (0,)), (eighths, (0, 1, 2, 3))):
+    for log, kinds in ((stairs, (0, 1, 4)), (chain, (0, 3, 4)), (steps, (0,)), (eighths, KINDS)):
         for kind in kinds:
             yield case(kind, ROWS, 8, log_of(log))
         yield case(0, ROWS, 64, log_of(log))
         yield case(0, SHARE, 300, log_of(log))
     yield case(2, ROWS, 64, log_of(stairs))
     yield case(0, SHARE, 0, log_of(steps))
+
+
+def means():
+    """Frames whose mean is not whole, the greatest and least means, and 128 records at a frame."""
+    # 1.5, a third, two thirds, 0, 500 and 1,000.
+    uneven = [(0, 0, 0, 1), (0, 0, 0, 2), (0, 1, 1, 0), (0, 1, 2, 0), (0, 1, 1, 1),
+              (0, 3, 3, 0), (0, 3, 4, 1), (0, 3, 3, 1), (0, 6, 6, 0), (0, 7, 7, 0), (0, 7, 7, 1000),
+              (0, 8, 8, 1000), (1, 0, 9, 1000), (1, 3, 5, 999), (1, 4, 4, 998)]
+    # 128 records that hold one another: at frame 150 a mean of 128 loads.
+    nested = [(2, i, 300 - i, (i * i * 7) % 1001) for i in range(128)]
+    for log in (uneven, nested):
+        for c in (1, 2, 3, 4, 8, 64):
+            yield case(4, ROWS, c, log_of(log))
+        for p in (0, 10, 100, 1000):
+            yield case(4, SHARE, p, log_of(log))
+    # 6 / 13 and 7 / 15 are 46 hundredths and some more: rounded down they are one segment.
+    alike = [(0, i, 60 - i, int(i < 6)) for i in range(13)] + [(0, 20, 30, 1), (0, 20, 30, 0)]
+    assert [0, 12, 48, 46] in segments_of(log_of(alike), 4)
+    for c in (1, 13, 64):
+        yield case(4, ROWS, c, log_of(alike))
 
 
 def at_random():
@@ -379,13 +410,13 @@ def at_random():
             records.append((numbers.choice((0, 0, 3, 7)), base + first, base + last,
                             numbers.choice((0, 1, 2, 3, 10, 1000))))
         rule, most = numbers.choice(((ROWS, 9), (SHARE, 1000)))
-        yield case(numbers.randrange(4), rule, numbers.randint(0, most), log_of(records))
+        yield case(numbers.choice(KINDS), rule, numbers.randint(0, most), log_of(records))
 
 
 def all_cases():
     """Every case once, in order."""
     return list(dict.fromkeys(itertools.chain(
-        played_through(), published(), refusals(), short_inputs(), longest(), at_random())))
+        played_through(), published(), refusals(), short_inputs(), longest(), means(), at_random())))
 
 
 def check_known():
@@ -402,6 +433,11 @@ def check_known():
     assert profile(case(0, SHARE, 281, g)).startswith("5 67 ")
     assert profile(case(0, SHARE, 282, g)).startswith("4 11280 ")
     assert profile(case(0, ROWS, 2, log_of(frames([0, 1, 2, 100])))).split()[2] == "5"
+    # Means in hundredths, rounded down. The means of G are cut at another frame than its sums.
+    assert [aggregate(4, loads) for loads in ([1, 2], [0, 0, 1], [0, 1, 1], [0, 1000])] == [
+        150, 33, 66, 50000]
+    assert profile(case(4, ROWS, 4, g)) == (
+        "4 25666667 16\n0 0 3 12500\n0 4 6 20333\n0 9 10 5000\n1 0 0 700\n")
     # The published reductions: first and last frames are the same, and a row value is the whole
     # number nearest to the published mean.
     assert profile(case(0, ROWS, 4, log_of(PROJ))).split("\n")[1:5] == [

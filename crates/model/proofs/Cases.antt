@@ -137,6 +137,16 @@ further-cases =
     caseOf 3 two-records (Rows 64 ∷ []) (span 0 0 1 100 ∷ span 0 2 5 200 ∷ [])
     (reduces 0 1 (span 0 0 1 100 ∷ span 0 2 5 200 ∷ []))
     ∷
+    -- kind 4: the mean in hundredths. The means of G are cut before frame 4, where its sums are cut before frame 2
+    caseOf 4 log-G (Rows 4 ∷ [])
+    (span 0 0 1 10000 ∷ span 0 2 3 15000 ∷ span 0 4 5 20000 ∷ span 0 6 6 21000 ∷ span 0 9 10 5000 ∷ span 1 0 0 700 ∷ [])
+    (reduces 25666667 16 (span 0 0 3 12500 ∷ span 0 4 6 20333 ∷ span 0 9 10 5000 ∷ span 1 0 0 700 ∷ []))
+    ∷
+    -- kind 4: loads 1 and 2, then 0, 0 and 1, whose mean is rounded down, then 0 and 1,000
+    caseOf 4 (span 0 0 0 1 ∷ span 0 0 0 2 ∷ span 0 1 1 0 ∷ span 0 1 2 0 ∷ span 0 1 1 1 ∷ span 0 2 2 1000 ∷ []) (Rows 64 ∷ [])
+    (span 0 0 0 150 ∷ span 0 1 1 33 ∷ span 0 2 2 50000 ∷ [])
+    (reduces 0 4 (span 0 0 0 150 ∷ span 0 1 1 33 ∷ span 0 2 2 50000 ∷ []))
+    ∷
     -- a share on the empty log
     case [] (Share 0 ∷ Share 1000 ∷ []) []
     (reduces 0 0 ([]))
@@ -209,7 +219,7 @@ shown : (All Short starred-cases) × (All Short further-cases)
 unfolding horizon sumFrom sumOf listFrom isSome numberAt bytesOf groupCount frameCount spanLength meets adjacent nowhere recordLength recordBytes recordAt recordCount records meeting sum aggregate aggregated value join fuse place framesFrom groupsFrom segmentsOf segmentAt gap lastGap runsTo block empty totalsOf add totals nearest rowValue squared errorWith blockError rowOf untried plus below exceeds weigh scan single cell least weighed cutsOf rowsOf fewest within firstThat mostRows chosen rowsTried errorOf gapBelow runs leastOf countFor reducedTo reduced slotLength ask outcome each marked askRoom kindKnown boundKnown groupKnown spanQuestions recordQuestions mostRecords logQuestions orderQuestions countsOf outcomeOn
 shown = (
   ((refl, refl, (refl, refl, tt)), ((refl, refl, (refl, refl, tt)), ((refl, refl, (refl, refl, tt)), ((refl, refl, (refl, refl, tt)), ((refl, refl, (refl, refl, tt)), ((refl, refl, (refl, refl, (refl, refl, tt))), ((refl, refl, (refl, refl, tt)), ((refl, refl, (refl, refl, tt)), ((refl, refl, (refl, refl, tt)), ((refl, refl, (refl, refl, tt)), ((refl, refl, (refl, refl, tt)), ((refl, refl, (refl, refl, tt)), tt)))))))))))),
-  ((refl, refl, (refl, refl, tt)), ((refl, refl, (refl, refl, tt)), ((refl, refl, (refl, refl, tt)), ((refl, refl, (refl, refl, tt)), ((refl, refl, (refl, refl, tt)), ((refl, refl, (refl, refl, tt)), ((refl, refl, (refl, refl, tt)), ((refl, refl, (refl, refl, (refl, refl, tt))), tt)))))))),
+  ((refl, refl, (refl, refl, tt)), ((refl, refl, (refl, refl, tt)), ((refl, refl, (refl, refl, tt)), ((refl, refl, (refl, refl, tt)), ((refl, refl, (refl, refl, tt)), ((refl, refl, (refl, refl, tt)), ((refl, refl, (refl, refl, tt)), ((refl, refl, (refl, refl, tt)), ((refl, refl, (refl, refl, tt)), ((refl, refl, (refl, refl, (refl, refl, tt))), tt)))))))))),
 )
 
 -- Every row of the two tables holds.
@@ -261,10 +271,13 @@ slot-cases =
     slotCase 0 11280 rows-G bytes-G (header 0 11280 4) rows-G
     ∷
     -- every number of several bytes with its bytes in order
-    slotCase 3 0x0807060504030201 (span 7 0x0201 0x0403 0x01F400 ∷ [])
-    (0x50 ∷ 0x48 ∷ 3 ∷ 1 ∷ 1 ∷ 2 ∷ 3 ∷ 4 ∷ 5 ∷ 6 ∷ 7 ∷ 8
+    slotCase 4 0x0807060504030201 (span 7 0x0201 0x0403 0x01F400 ∷ [])
+    (0x50 ∷ 0x48 ∷ 4 ∷ 1 ∷ 1 ∷ 2 ∷ 3 ∷ 4 ∷ 5 ∷ 6 ∷ 7 ∷ 8
     ∷ 0x50 ∷ 0x52 ∷ 7 ∷ 1 ∷ 2 ∷ 3 ∷ 4 ∷ 0 ∷ 0xF4 ∷ 1 ∷ 0 ∷ [])
-    (header 3 0x0807060504030201 1) (span 7 0x0201 0x0403 0x01F400 ∷ [])
+    (header 4 0x0807060504030201 1) (span 7 0x0201 0x0403 0x01F400 ∷ [])
+    ∷
+    -- kind 5: question 12
+    slotCase 5 0 [] (0x50 ∷ 0x48 ∷ 5 ∷ []) (refused 12 0) []
     ∷
     -- two rows that share a frame: question 16, of the second
     slotCase 0 0 (span 0 0 3 1 ∷ span 0 3 5 2 ∷ [])
@@ -319,7 +332,7 @@ RecordHolds c =
 pub byte-cases : All SlotHolds slot-cases × All RecordHolds record-cases
 unfolding listFrom numberAt bytesOf slotLength rowBytes rowsBytes usedBytes slotBytes rowPlace slotKind slotCount slotError slotRow slotRows ask outcome lent each marked askRoom kindKnown groupKnown spanQuestions mostRows follows inOrder rowKnown rowQuestions zeros tailZero slotQuestions readOutcome readRows recordLength recordBytes writeQuestions writeOutcome writtenBuffer
 byte-cases = (
-  ((refl, refl, refl), ((refl, refl, refl), ((refl, refl, refl), tt))),
+  ((refl, refl, refl), ((refl, refl, refl), ((refl, refl, refl), ((refl, refl, refl), tt)))),
   ((refl, refl), ((refl, refl), ((refl, refl), ((refl, refl), ((refl, refl), ((refl, refl), tt)))))),
 )
 

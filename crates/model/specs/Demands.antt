@@ -10,7 +10,7 @@ use lib.IntN.{ℤ, pos}
 use lib.ListN.{length, getD, take}
 use Rattle.model.specs.Common.{sumOf}
 use Rattle.model.specs.Spans.{Span, spanLength, adjacent}
-use Rattle.model.specs.Log.{records, value}
+use Rattle.model.specs.Log.{records, meeting, sum, value}
 use Rattle.model.specs.Blocks.{segmentAt, gap}
 use Rattle.model.specs.Split.{Reduced, errorOf, gapBelow, runs, rowsOf, mostRows}
 use Rattle.model.specs.Reductions.{IsReduction, Merges, BestWithin, FewestWithin, reductionError}
@@ -87,6 +87,12 @@ pub record Segmentation (val : ℕ → ℕ → Option ℕ) (segs : List (Span �
   pub differ : (i : ℕ) → suc i < length segs → adjacent (segmentAt segs i) (segmentAt segs (suc i)) ≡ true
       → (segmentAt segs i) .value ≡ (segmentAt segs (suc i)) .value → ⊥
 
+-- v is the mean of these loads in hundredths: at most 100,000, not above the true mean, and less than one hundredth below it
+pub record MeanInHundredths (loads : List ℕ) (v : ℕ) : Type 0 where
+  pub most : v ≤ 100000
+  pub notAbove : v * length loads ≤ 100 * sum loads
+  pub lessThanOneBelow : 100 * sum loads < suc v * length loads
+
 -- the rows and error of a reduction with these cuts
 pub record Cut (segs : List (Span ℕ)) (a : Reduced) (cuts : List ℕ) : Type 0 where
   pub rows : a .rows ≡ rowsOf (segmentAt segs) (length segs) cuts
@@ -116,6 +122,9 @@ pub record Reads (slot : List ℕ) (kind error : ℕ) (rows : List (Span ℕ)) :
 pub record Demand2 : Type 0 where
   pub segmentation : (kind : ℕ) (log : List ℕ) → Segmentation (value kind (records log)) (logSegments kind log)
   pub count : (kind : ℕ) (log : List ℕ) → AllPass (logQuestions log) → length (logSegments kind log) ≤ mostSegments
+  -- kind 4 of a frame is the mean of the loads of the records that contain it
+  pub mean : (log : List ℕ) → AllPass (logQuestions log) → (g f v : ℕ) → value 4 (records log) g f ≡ some v
+      → MeanInHundredths (meeting (records log) g f f) v
   pub conserved : (log : List ℕ) → Bytes log → AllPass (logQuestions log)
       → sumOf (λ s. spanLength s * s .value) (logSegments 0 log)
       ≡ sumOf (λ r. spanLength r * r .value) (records log)

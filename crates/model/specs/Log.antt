@@ -40,14 +40,15 @@ meeting (r ∷ rs) g a b = cond (meets r g a b) (r .value ∷ meeting rs g a b) 
 unfoldable pub sum : List ℕ → ℕ
 sum xs = foldr _+_ 0 xs
 
--- one value from the loads x ∷ xs, by the kind: 0 their sum, 1 their count, 2 the least, 3 the greatest.
--- Other kinds are refused before a value is asked for.
+-- one value from the loads x ∷ xs, by the kind: 0 their sum, 1 their count, 2 the least, 3 the greatest, 4 their mean in
+-- hundredths: 100 times the sum divided by the count, rounded down. Other kinds are refused before a value is asked for.
 unfoldable pub aggregate : ℕ → ℕ → List ℕ → ℕ
 aggregate zero x xs = x + sum xs
 aggregate (suc zero) x xs = suc (length xs)
 aggregate (suc (suc zero)) x xs = foldr min x xs
 aggregate (suc (suc (suc zero))) x xs = foldr max x xs
-aggregate (suc (suc (suc (suc k)))) x xs = 0
+aggregate (suc (suc (suc (suc zero)))) x xs = 100 * (x + sum xs) / suc (length xs)
+aggregate (suc (suc (suc (suc (suc k))))) x xs = 0
 
 -- no load, no value
 unfoldable pub aggregated : ℕ → List ℕ → Option ℕ

@@ -48,8 +48,12 @@ marked bytes i a b = eqb (getD bytes i 0) a && eqb (getD bytes (suc i) 0) b
 unfoldable pub askRoom : ℕ → ℕ → Question
 askRoom needed room = ask 1 0 (leb needed room)
 
+-- the kinds of a query and of a slot are 0 to 4
+abbrev pub mostKind : ℕ
+mostKind = 4
+
 unfoldable pub kindKnown : ℕ → Bool
-kindKnown kind = leb kind 3
+kindKnown kind = leb kind mostKind
 
 unfoldable pub boundKnown : Bound → Bool
 boundKnown (Rows c) = leb c mostRows

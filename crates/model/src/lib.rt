@@ -4,7 +4,7 @@
 // The paper's limits.
 
 // The greatest kind of a query or a slot.
-pub const MOST_KIND: u8 = 3;
+pub const MOST_KIND: u8 = 4;
 
 // The greatest group.
 pub const MOST_GROUP: u8 = 7;

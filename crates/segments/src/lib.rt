@@ -21,7 +21,7 @@ ghost use Rattle.model.specs.Segments.{framesFrom, segments};
 ghost use Rattle.model.specs.Questions.{refused, lent, segmentsQuestions, mostRecords};
 ghost use Rattle.model.specs.Calls.{segmentsCase, segmentsOutcome, logSegments};
 ghost use Rattle.model.specs.Arrays.{spansIn, segmentArrays};
-ghost use Rattle.tally.specs.Tally.{ownsIn, surveyed, ownValue};
+ghost use Rattle.tally.specs.Tally.{ownsIn, Survey, ownValue};
 ghost use Rattle.segments.specs.Steps.{joins, segmentSpan, arraysOf, Made, behind};
 
 // The segment call's answer, and the segments beside it: none in a refusal.
@@ -83,7 +83,7 @@ fn add_stretch<'a>(
     count: usize,
 ) -> usize
     requires { ⌜ own ≤ 128 ⌝ }
-    requires { ⌜ here ≡ surveyed a (ownsIn (now «own_firsts») (now «own_lasts») (now «own_loads») own) ⌝ }
+    requires { ⌜ Survey a (ownsIn (now «own_firsts») (now «own_lasts») (now «own_loads») own) here ⌝ }
     requires { ⌜ Made (arraysOf (now groups) (now firsts) (now lasts) (now values) count) ⌝ }
     requires { ⌜ length (behind (arraysOf (now groups) (now firsts) (now lasts) (now values) count) (framesFrom (ownValue kind (ownsIn (now «own_firsts») (now «own_lasts») (now «own_loads») own)) group a (suc (here .stop) - a) [])) ≤ 255 ⌝ }
     ensures { λ r. ⌜ arraysOf (now (groups .exit)) (now (firsts .exit)) (now (lasts .exit)) (now (values .exit)) r ≡ segmentArrays (behind (arraysOf (now (groups .entry)) (now (firsts .entry)) (now (lasts .entry)) (now (values .entry)) count) (framesFrom (ownValue kind (ownsIn (now («own_firsts» .entry)) (now («own_lasts» .entry)) (now («own_loads» .entry)) own)) group a (suc (here .stop) - a) [])) ⌝ }

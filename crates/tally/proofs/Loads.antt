@@ -214,13 +214,19 @@ unfolding aggregated aggregate
 greatest-value [] none-held = absurd (none-held refl)
 greatest-value (x ∷ l) some-held = ap (λ (v : ℕ). some v) (greatest-in x l)
 
+pub mean-value : (l : List ℕ) → (length l ≡ 0 → ⊥) → aggregated 4 l ≡ some (100 * sum l / length l)
+unfolding aggregated aggregate sum
+mean-value [] none-held = absurd (none-held refl)
+mean-value (x ∷ l) some-held = refl
+
 -- other kinds have no value of their own
 pub other-value : (kind : ℕ) (l : List ℕ) → (length l ≡ 0 → ⊥) → (kind ≡ 0 → ⊥) → (kind ≡ 1 → ⊥) → (kind ≡ 2 → ⊥)
-    → (kind ≡ 3 → ⊥) → aggregated kind l ≡ some 0
+    → (kind ≡ 3 → ⊥) → (kind ≡ 4 → ⊥) → aggregated kind l ≡ some 0
 unfolding aggregated aggregate
-other-value kind [] none-held a b c d = absurd (none-held refl)
-other-value zero (x ∷ l) some-held a b c d = absurd (a refl)
-other-value (suc zero) (x ∷ l) some-held a b c d = absurd (b refl)
-other-value (suc (suc zero)) (x ∷ l) some-held a b c d = absurd (c refl)
-other-value (suc (suc (suc zero))) (x ∷ l) some-held a b c d = absurd (d refl)
-other-value (suc (suc (suc (suc kind)))) (x ∷ l) some-held a b c d = refl
+other-value kind [] none-held a b c d e = absurd (none-held refl)
+other-value zero (x ∷ l) some-held a b c d e = absurd (a refl)
+other-value (suc zero) (x ∷ l) some-held a b c d e = absurd (b refl)
+other-value (suc (suc zero)) (x ∷ l) some-held a b c d e = absurd (c refl)
+other-value (suc (suc (suc zero))) (x ∷ l) some-held a b c d e = absurd (d refl)
+other-value (suc (suc (suc (suc zero)))) (x ∷ l) some-held a b c d e = absurd (e refl)
+other-value (suc (suc (suc (suc (suc kind))))) (x ∷ l) some-held a b c d e = refl

@@ -1,6 +1,6 @@
 -- The records of one group, and what they say at a frame: the last frame before their next event, the loads of those that hold
 -- the frame, and its value.
-use Prim.Native.Nat.{ℕ, _-_, min}
+use Prim.Native.Nat.{ℕ, _-_, _*_, _≤_, min}
 use mathlib.Core.Bool.{Bool, _&&_, cond}
 use mathlib.Core.List.{List, [], _∷_}
 use mathlib.Core.Option.{Option}
@@ -51,9 +51,12 @@ unfoldable pub stopAt : ℕ → List Own → ℕ
 stopAt a [] = 65535
 stopAt a (r ∷ rs) = min (stopOf a r) (stopAt a rs)
 
--- what is found at frame a
-unfoldable pub surveyed : ℕ → List Own → Here
-surveyed a own = record { stop = stopAt a own; count = length (loadsAt a own); sum = sum (loadsAt a own) }
+-- what is found at frame a, field by field; and the sum of at most 128 loads of 16 bits is no greater than so many can have
+pub record Survey (a : ℕ) (own : List Own) (here : Here) : Type 0 where
+  pub stops : here .stop ≡ stopAt a own
+  pub counts : here .count ≡ length (loadsAt a own)
+  pub sums : here .sum ≡ sum (loadsAt a own)
+  pub sum-le : here .sum ≤ 65535 * 128
 
 -- the value of a frame by the records of its group alone
 unfoldable pub ownValue : ℕ → List Own → ℕ → ℕ → Option ℕ

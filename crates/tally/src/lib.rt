@@ -7,11 +7,11 @@ ghost use mathlib.Core.Path.{_≡_};
 ghost use mathlib.Core.List.{[], _∷_, _++_};
 ghost use mathlib.Core.Option.{some};
 ghost use mathlib.Core.Bool.{cond};
-ghost use Prim.Native.Nat.{_+_, _<_, _≤_, min, max};
+ghost use Prim.Native.Nat.{_+_, _*_, _/_, _<_, _≤_, min, max};
 ghost use lib.ListN.{length};
 ghost use Rattle.model.specs.Log.{aggregated};
 ghost use Rattle.model.specs.Arrays.{spansIn};
-ghost use Rattle.tally.specs.Tally.{ownIn, ownsIn, Sized, onlyOf, held, loadsAt, stopOf, surveyed};
+ghost use Rattle.tally.specs.Tally.{ownIn, ownsIn, Sized, onlyOf, held, loadsAt, stopOf, Survey};
 
 // A record of the group in hand.
 pub struct Own {
@@ -157,7 +157,7 @@ pub fn survey<'a>(
     a: u16,
 ) -> Here
     requires { ⌜ own ≤ 128 ⌝ }
-    ensures { λ r. ⌜ r ≡ surveyed a (ownsIn (now (firsts .entry)) (now (lasts .entry)) (now (loads .entry)) own) ⌝ }
+    ensures { λ r. ⌜ Survey a (ownsIn (now (firsts .entry)) (now (lasts .entry)) (now (loads .entry)) own) r ⌝ }
 {
     let mut stop: u16 = 65535;
     let mut count: u16 = 0;
@@ -225,6 +225,14 @@ fn greatest<'a>(
     found
 }
 
+// The mean of some loads in hundredths, rounded down, from their sum and their count.
+fn mean(sum: u32, count: u32) -> u32
+    requires { ⌜ (sum ≤ 65535 * 128) × (count ≡ 0 → ⊥) ⌝ }
+    ensures { λ r. ⌜ r ≡ 100 * sum / count ⌝ }
+{
+    (100 * sum) / count
+}
+
 // The value of frame a by the kind, where some record holds the frame.
 pub fn value_at<'a>(
     kind: u8,
@@ -236,7 +244,7 @@ pub fn value_at<'a>(
     a: u16,
 ) -> u32
     requires { ⌜ own ≤ 128 ⌝ }
-    requires { ⌜ here ≡ surveyed a (ownsIn (now firsts) (now lasts) (now loads) own) ⌝ }
+    requires { ⌜ Survey a (ownsIn (now firsts) (now lasts) (now loads) own) here ⌝ }
     requires { ⌜ (length (loadsAt a (ownsIn (now firsts) (now lasts) (now loads) own)) ≡ 0 → ⊥) ⌝ }
     ensures { λ r. ⌜ aggregated kind (loadsAt a (ownsIn (now (firsts .entry)) (now (lasts .entry)) (now (loads .entry)) own)) ≡ some r ⌝ }
 {
@@ -245,6 +253,7 @@ pub fn value_at<'a>(
         1 => wide(here.count),
         2 => wide(least(firsts, lasts, loads, own, a)),
         3 => wide(greatest(firsts, lasts, loads, own, a)),
+        4 => mean(here.sum, wide(here.count)),
         _ => 0,
     }
 }

@@ -1,13 +1,14 @@
 -- Every number that the tool holds fits 64 bits. The loads of a log's records are at most 1,000 and its records at most 128,
 -- so that a frame's value is at most 128,000; all segments together have no more frames than there are; so a block's totals
 -- and the error of any reduction are below 2^53, and 1,000 times such an error is below 2^64. Assumes nothing.
-use Prim.Native.Nat.{ℕ, zero, suc, _+_, _-_, _*_, _^_, _≤_, _<_, zero-le}
+use Prim.Native.Nat.{ℕ, zero, suc, _+_, _-_, _*_, _^_, _/_, _≤_, _<_, zero-le, min, max}
 use mathlib.Core.Bool.{_&&_}
-use mathlib.Core.List.{List, [], _∷_, _++_, List·Memᴰ, List·Memᴰ·head, List·Memᴰ·tail, List·Memᴰ·cases-cons, List·Memᴰ·not-nil}
+use mathlib.Core.List.{List, [], _∷_, _++_, foldr, List·Memᴰ, List·Memᴰ·head, List·Memᴰ·tail, List·Memᴰ·cases-cons, List·Memᴰ·not-nil}
 use mathlib.Core.Logic.{⊎-elim}
 use mathlib.Core.Option.{Option, none, some}
-use mathlib.Core.Path.{_≡_, refl, ap, _∙_}
-use native.Mathlib.Nat.{le-refl, le-trans, le-of-lt, mul-le-mul-left, mul-le-mul-right, add-zero, zero-add, sub-zero}
+use mathlib.Core.Path.{_≡_, refl, ap, _∙_, subst}
+use native.Mathlib.Decide.{decLe}
+use native.Mathlib.Nat.{le-refl, le-trans, le-of-lt, lt-of-not-le, mul-le-mul-left, mul-le-mul-right, add-zero, zero-add, sub-zero, div-add-mod', mod-lt}
 use native.Mathlib.Omega.{arith}
 use lib.Dec.{ltb, eqb}
 use lib.IntN.{pos}
@@ -24,7 +25,7 @@ use Rattle.model.specs.Fitting.{overFrames}
 use Rattle.model.specs.Questions.{ask, groupKnown, spanQuestions, recordQuestions, logQuestions, mostRecords, mostValue, mostSegments}
 use Rattle.model.specs.Calls.{logSegments}
 use Rattle.model.specs.Room.{mostFrames, mostError, Room, Block, Measured}
-use Rattle.model.specs.Demands.{AllPass}
+use Rattle.model.specs.Demands.{AllPass, MeanInHundredths}
 use Rattle.theory.proofs.Tests.{cases}
 use Rattle.theory.proofs.Sums.{sumFrom-const, sumOf-cong, sumOf-append, overFrames-le}
 use Rattle.theory.proofs.Refusals.{all-head, all-tail, all-at}
@@ -69,32 +70,50 @@ sound-records log all =
 
 -- ---- a frame's value
 
--- one more load of at most 1,000 adds at most 1,000, whatever the kind
-aggregate-step : (kind x y : ℕ) (ys : List ℕ) → y ≤ 1000
-    → aggregate kind x (y ∷ ys) ≤ aggregate kind x ys + 1000
-unfolding aggregate sum
-aggregate-step zero x y ys small = omega arith
-aggregate-step (suc zero) x y ys small = omega arith
-aggregate-step (suc (suc zero)) x y ys small = omega arith
-aggregate-step (suc (suc (suc zero))) x y ys small = omega arith
-aggregate-step (suc (suc (suc (suc k)))) x y ys small = zero-le
+-- loads of at most 1,000 sum to at most 1,000 for each of them
+sum-le : (ys : List ℕ) → ((y : ℕ) → List·Memᴰ y ys → y ≤ 1000) → sum ys ≤ 1000 * length ys
+unfolding sum
+sum-le [] small = zero-le
+sum-le (y ∷ ys) small =
+    let ih = sum-le ys (λ z m. small z (List·Memᴰ·tail m)) in
+    let here = small y (List·Memᴰ·head refl) in
+    omega arith
 
--- one load alone gives at most 1,000
-aggregate-one : (kind x : ℕ) → x ≤ 1000 → aggregate kind x [] ≤ 1000
-unfolding aggregate sum
-aggregate-one zero x small = omega arith
-aggregate-one (suc zero) x small = omega arith
-aggregate-one (suc (suc zero)) x small = small
-aggregate-one (suc (suc (suc zero))) x small = small
-aggregate-one (suc (suc (suc (suc k)))) x small = zero-le
+-- neither the least nor the greatest load is above the sum
+ends-le : (x : ℕ) (ys : List ℕ) → (foldr min x ys ≤ x + sum ys) × (foldr max x ys ≤ x + sum ys)
+unfolding sum
+ends-le x [] = (omega arith, omega arith)
+ends-le x (y ∷ ys) = let ih = ends-le x ys in (omega arith, omega arith)
 
--- loads of at most 1,000 give at most 1,000 for each of them
-aggregate-le : (kind x : ℕ) (ys : List ℕ) → x ≤ 1000 → ((y : ℕ) → List·Memᴰ y ys → y ≤ 1000)
-    → aggregate kind x ys ≤ 1000 * suc (length ys)
-aggregate-le kind x [] here small = omega (arith, aggregate-one kind x here)
-aggregate-le kind x (y ∷ ys) here small =
-    let ih = aggregate-le kind x ys here (λ z m. small z (List·Memᴰ·tail m)) in
-    omega (arith, aggregate-step kind x y ys (small y (List·Memᴰ·head refl)))
+-- loads that sum to at most 1,000 for each of them have a mean of at most 1,000
+mean-in-hundredths : (x : ℕ) (xs : List ℕ) → x + sum xs ≤ 1000 * suc (length xs) → MeanInHundredths (x ∷ xs) (aggregate 4 x xs)
+unfolding aggregate sum
+mean-in-hundredths x xs low =
+    let count = suc (length xs) in
+    let mean = 100 * (x + sum xs) / count in
+    let parts = div-add-mod' (100 * (x + sum xs)) count in
+    let some-loads : 0 < count = omega arith in
+    let left = mod-lt (100 * (x + sum xs)) some-loads in
+    record {
+      most =
+          elim (decLe mean 100000) [
+            | yes h ↦ h
+            | no above ↦ absurd (omega (arith, mul-le-mul-right count (lt-of-not-le above)))
+          ];
+      notAbove = omega arith;
+      lessThanOneBelow = omega arith;
+    }
+
+-- at most 128 loads that sum to at most 1,000 for each of them have a value of at most 128,000, kind by kind
+aggregate-le : (kind x : ℕ) (xs : List ℕ) → suc (length xs) ≤ 128 → x + sum xs ≤ 1000 * suc (length xs)
+    → aggregate kind x xs ≤ mostValue
+unfolding aggregate
+aggregate-le zero x xs short low = omega arith
+aggregate-le (suc zero) x xs short low = omega arith
+aggregate-le (suc (suc zero)) x xs short low = omega (arith, ends-le x xs .0)
+aggregate-le (suc (suc (suc zero))) x xs short low = omega (arith, ends-le x xs .1)
+aggregate-le (suc (suc (suc (suc zero)))) x xs short low = omega (arith, mean-in-hundredths x xs low .most)
+aggregate-le (suc (suc (suc (suc (suc k))))) x xs short low = zero-le
 
 -- the loads that meet a stretch of frames are loads of the records, and no more than these
 meeting-le : (rs : List (Span ℕ)) (g a b : ℕ) → ((r : Span ℕ) → List·Memᴰ r rs → r .value ≤ 1000)
@@ -113,28 +132,38 @@ meeting-le (r ∷ rs) g a b small =
 
 module _ (kind : ℕ) (rs : List (Span ℕ)) (few : length rs ≤ mostRecords)
     (small : (r : Span ℕ) → List·Memᴰ r rs → r .value ≤ 1000) where
-  -- a frame's value is at most 128,000
-  pub value-le : (g f v : ℕ) → value kind rs g f ≡ some v → v ≤ mostValue
-  unfolding value aggregated mostRecords
-  value-le g f v e =
+  -- what holds of at most 128 loads that sum to at most 1,000 for each of them, and of their value, holds of the loads at a
+  -- frame and of its value
+  at-frame : (P : List ℕ → ℕ → Type 0)
+      → ((x : ℕ) (xs : List ℕ) → suc (length xs) ≤ 128 → x + sum xs ≤ 1000 * suc (length xs) → P (x ∷ xs) (aggregate kind x xs))
+      → (g f v : ℕ) → value kind rs g f ≡ some v → P (meeting rs g f f) v
+  unfolding value aggregated mostRecords sum
+  at-frame P each-has g f v e =
       let loads = meeting-le rs g f f small in
       cases (ltb g groupCount && ltb f frameCount)
-      (λ t. by (meeting rs g f f) (le-trans (loads .0) few) (loads .1) (rw t at e))
+      (λ t. by (meeting rs g f f) (le-trans (loads .0) few) (sum-le (meeting rs g f f) (loads .1)) (rw t at e))
       (λ t. absurd (none≢some refl (rw t at e)))
     where
-      by : (l : List ℕ) → length l ≤ 128 → ((y : ℕ) → List·Memᴰ y l → y ≤ 1000) → aggregated kind l ≡ some v
-          → v ≤ 128000
-      by [] short each-small known = absurd (none≢some refl known)
-      by (x ∷ xs) short each-small known =
-          let same : v ≡ aggregate kind x xs = cc in
-          let here = each-small x (List·Memᴰ·head refl) in
-          omega (arith, aggregate-le kind x xs here (λ y m. each-small y (List·Memᴰ·tail m)))
+      by : (l : List ℕ) → length l ≤ 128 → sum l ≤ 1000 * length l → aggregated kind l ≡ some v → P l v
+      by [] short low known = absurd (none≢some refl known)
+      by (x ∷ xs) short low known = let is : aggregate kind x xs ≡ v = cc in subst (P (x ∷ xs)) is (each-has x xs short low)
+
+  -- a frame's value is at most 128,000
+  pub value-le : (g f v : ℕ) → value kind rs g f ≡ some v → v ≤ mostValue
+  value-le = at-frame (λ l v. v ≤ mostValue) (aggregate-le kind)
 
   -- so is a segment's
   pub segment-value-le : (s : Span ℕ) → List·Memᴰ s (segments kind rs) → s .value ≤ mostValue
   segment-value-le s m =
       value-le (s .group) (s .first) (s .value)
       (segmentation kind rs .constant s m (s .first) (le-refl _) (segmentation kind rs .ordered s m))
+
+-- kind 4 is the mean in hundredths
+pub mean : (log : List ℕ) → AllPass (logQuestions log) → (g f v : ℕ) → value 4 (records log) g f ≡ some v
+    → MeanInHundredths (meeting (records log) g f f) v
+mean log all =
+    let (few, sound) = sound-records log all in
+    at-frame 4 (records log) few (λ r m. sound r m .2) MeanInHundredths (λ x xs short low. mean-in-hundredths x xs low)
 
 -- the segments have no more frames than there are
 pub frames-le : (kind : ℕ) (rs : List (Span ℕ)) → sumOf spanLength (segments kind rs) ≤ groupCount * frameCount

@@ -31,7 +31,7 @@ use Rattle.theory.proofs.Frames.{segmentation}
 use Rattle.theory.proofs.Count.{segment-count}
 use Rattle.theory.proofs.Conserved.{conserved}
 use Rattle.theory.proofs.Merging.{merging}
-use Rattle.theory.proofs.Bounds.{sound-records, logs-measured, reduction-error-le, most-error}
+use Rattle.theory.proofs.Bounds.{sound-records, mean, logs-measured, reduction-error-le, most-error}
 use Rattle.theory.proofs.Stored.{rows-length, rows-known, rows-sorted}
 use Rattle.theory.proofs.Answer.{limitOf, answer-reduces, best-rows, some-count, count-le, too-few-rows, only-least}
 use Rattle.theory.proofs.Empty.{nothing-fits, empty-log}
@@ -146,6 +146,7 @@ demand2 =
     record {
       segmentation = λ kind log. segmentation kind (records log);
       count = segment-count;
+      mean = mean;
       conserved = conserved;
       merging = λ kind log. merging (segmentAt (logSegments kind log)) (length (logSegments kind log));
       reduction = λ q log room counts ok.

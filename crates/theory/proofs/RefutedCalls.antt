@@ -83,8 +83,8 @@ nine-rows = replicate 64 (record { group = 9; first = 9; last = 9; value = 9 })
 
 -- the first 'no' of each call's questions
 first-noes : (outcome (writeQuestions wrong-record 9) (tt {0}) ≡ refused 7 0)
-    × (outcome (segmentsQuestions 4 [] 255) (tt {0}) ≡ refused 2 0)
-    × (outcome (queryQuestions (query 4 (Rows 65)) [] 768) (tt {0}) ≡ refused 2 0)
+    × (outcome (segmentsQuestions 5 [] 255) (tt {0}) ≡ refused 2 0)
+    × (outcome (queryQuestions (query 5 (Rows 65)) [] 768) (tt {0}) ≡ refused 2 0)
     × (outcome (byLetterQuestions 0 0x41 4 [] 768) (tt {0}) ≡ refused 3 0)
     × (outcome (slotQuestions zero-slot) (tt {0}) ≡ refused 11 0)
     × (outcome (lookupQuestions (slotBytes 0 11280 rows-G) 8) (tt {0}) ≡ refused 7 0)
@@ -112,16 +112,16 @@ wrong-write =
     let (says, kept) = asks-refused _ _ _ 7 0 (first-noes .0) _ (demand1 .write wrong-record nines) in
     ((λ e. accepted≢refused (sym e ∙ says)), λ e. omega (arith, ap (λ (l : List ℕ). getD l 0 0) (sym e ∙ kept)))
 
-pub wrong-segments : ((n : ℕ) → segmentsOutcome 4 [] 255 ≡ accepted n → ⊥) × (filledList 4 [] nine-segments ≡ [] → ⊥)
+pub wrong-segments : ((n : ℕ) → segmentsOutcome 5 [] 255 ≡ accepted n → ⊥) × (filledList 5 [] nine-segments ≡ [] → ⊥)
 wrong-segments =
-    let (says, kept) = asks-refused _ _ _ 2 0 (first-noes .1) _ (demand1 .segments 4 [] nine-segments) in
+    let (says, kept) = asks-refused _ _ _ 2 0 (first-noes .1) _ (demand1 .segments 5 [] nine-segments) in
     ((λ n e. accepted≢refused (sym e ∙ says)), λ e. omega (arith, ap length (sym e ∙ kept)))
 
-pub wrong-query : ((counts : Counts) → queryOutcome (query 4 (Rows 65)) [] 768 ≡ accepted counts → ⊥)
-    × (querySlot (query 4 (Rows 65)) [] zero-slot ≡ slotBytes 4 0 [] → ⊥)
+pub wrong-query : ((counts : Counts) → queryOutcome (query 5 (Rows 65)) [] 768 ≡ accepted counts → ⊥)
+    × (querySlot (query 5 (Rows 65)) [] zero-slot ≡ slotBytes 5 0 [] → ⊥)
 unfolding slotBytes usedBytes
 wrong-query =
-    let (says, kept) = asks-refused _ _ _ 2 0 (first-noes .2) _ (demand1 .query (query 4 (Rows 65)) [] zero-slot) in
+    let (says, kept) = asks-refused _ _ _ 2 0 (first-noes .2) _ (demand1 .query (query 5 (Rows 65)) [] zero-slot) in
     ((λ counts e. accepted≢refused (sym e ∙ says)), λ e. omega (arith, ap (λ (l : List ℕ). getD l 0 0) (sym e ∙ kept)))
 
 pub wrong-letter : ((counts : Counts) → letterOutcome 0 0x41 4 [] 768 ≡ accepted counts → ⊥)

@@ -19,7 +19,7 @@ use Rattle.model.specs.Slot.{slotLength}
 use Rattle.model.specs.Questions.{accepted, refused, kindKnown, boundKnown, orderQuestions, logQuestions, mostSegments}
 use Rattle.model.specs.Calls.{Counts, logSegments, answerOf, countsOf, queryOutcome}
 use Rattle.model.specs.Fitting.{hits, due}
-use Rattle.model.specs.Demands.{AllPass, Segmentation, Cut, Bytes}
+use Rattle.model.specs.Demands.{AllPass, Segmentation, MeanInHundredths, Cut, Bytes}
 use Rattle.model.specs.declared.Bound.the-variants.{Rows, Share}
 use Rattle.model.proofs.Cases.{span, log-G, segments-G, rows-G, bytes, query, worked-cases}
 use Rattle.theory.proofs.Tests.{and-true}
@@ -78,6 +78,25 @@ segment-could-begin-earlier s = s .longest (span 0 4 7 10) (List·Memᴰ·tail (
 pub neighbours-not-joined : Segmentation (value 0 end-to-end) end-to-end → ⊥
 unfolding segmentAt adjacent
 neighbours-not-joined s = s .differ 0 (omega arith) refl refl
+
+-- ---- means in hundredths
+
+-- the mean of the loads 0, 1 and 1 rounded up (notAbove), and that of 1 and 2 with one hundredth less (lessThanOneBelow)
+pub mean-rounded-up : MeanInHundredths (0 ∷ 1 ∷ 1 ∷ []) 67 → ⊥
+unfolding sum
+mean-rounded-up m = omega (arith, m .notAbove)
+
+pub mean-one-below : MeanInHundredths (1 ∷ 2 ∷ []) 149 → ⊥
+unfolding sum
+mean-one-below m = omega (arith, m .lessThanOneBelow)
+
+-- one hundredth more than the greatest load (most), and the mean of no load (lessThanOneBelow)
+pub mean-above-most : (loads : List ℕ) → MeanInHundredths loads 100001 → ⊥
+mean-above-most loads m = omega (arith, m .most)
+
+pub mean-of-nothing : (v : ℕ) → MeanInHundredths [] v → ⊥
+unfolding sum
+mean-of-nothing v m = omega (arith, m .lessThanOneBelow)
 
 -- ---- reductions of the segments of G
 
@@ -319,13 +338,24 @@ bytes-only [] h i = omega arith
 bytes-only (b ∷ rest) h zero = ltb-true b 256 (and-true (ltb b 256) _ h .0)
 bytes-only (b ∷ rest) h (suc i) = bytes-only rest (and-true (ltb b 256) _ h .1) i
 
+-- G passes the questions of a log
+logged-G : AllPass (logQuestions (bytes log-G))
+unfolding boundKnown mostRows orderQuestions
+logged-G = all-tail _ _ (all-tail _ _ (in-order (Rows 4) refl))
+
 -- a load lost where two records overlap (conserved)
 pub load-lost : logSegments 0 (bytes log-G)
     ≡ span 0 0 1 100 ∷ span 0 2 3 200 ∷ span 0 4 5 200 ∷ span 0 6 6 210 ∷ span 0 9 10 50 ∷ span 1 0 0 7 ∷ [] → ⊥
-unfolding bytesOnly records recordCount recordLength listFrom recordAt numberAt recordBytes bytesOf sumOf spanLength boundKnown mostRows orderQuestions
+unfolding bytesOnly records recordCount recordLength listFrom recordAt numberAt recordBytes bytesOf sumOf spanLength
 load-lost e =
-    let conserved = demand2 .conserved (bytes log-G) (bytes-only (bytes log-G) refl) (all-tail _ _ (all-tail _ _ (in-order (Rows 4) refl))) in
+    let conserved = demand2 .conserved (bytes log-G) (bytes-only (bytes log-G) refl) logged-G in
     omega (arith, ap (sumOf (λ s. spanLength s * s .value)) e, conserved)
+
+-- the mean of the loads 100 and 200 at frame 2 of G taken for 150 hundredths (mean)
+pub mean-in-whole-units : value 4 (records (bytes log-G)) 0 2 ≡ some 150 → ⊥
+unfolding records recordCount recordLength listFrom recordAt numberAt recordBytes bytesOf meeting meets sum
+mean-in-whole-units e =
+    omega (arith, demand2 .mean (bytes log-G) logged-G 0 2 150 e .lessThanOneBelow)
 
 -- the empty log refused (emptyLog)
 pub nothing-refused : (number index : ℕ) → queryOutcome (query 0 (Share 0)) [] 768 ≡ refused number index → ⊥

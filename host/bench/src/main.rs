@@ -11,7 +11,7 @@
 
 mod plain;
 
-use pacer::c;
+use pacer::{c, Kind};
 use std::hint::black_box;
 use std::time::{Duration, Instant};
 
@@ -32,28 +32,38 @@ fn record(group: u8, first: usize, last: usize, load: usize) -> Vec<u8> {
     bytes
 }
 
-/// A shape of data: what it is called and its log of n segments, for kind 0.
+/// A shape of data: what it is called, the kind that is asked for, and its log of n segments.
 struct Shape {
     name: &'static str,
+    kind: u8,
     log: fn(usize) -> Vec<u8>,
 }
 
-const SHAPES: [Shape; 4] = [
+const SHAPES: [Shape; 5] = [
     Shape {
         name: "no early exit",
+        kind: Kind::SUM.0,
         log: alternating,
     },
     Shape {
         name: "ramp",
+        kind: Kind::SUM.0,
         log: ramp,
     },
     Shape {
         name: "random",
+        kind: Kind::SUM.0,
         log: random,
     },
     Shape {
         name: "random, 8 groups, gaps",
+        kind: Kind::SUM.0,
         log: groups,
+    },
+    Shape {
+        name: "random, mean",
+        kind: Kind::MEAN.0,
+        log: random,
     },
 ];
 
@@ -230,8 +240,9 @@ fn head(numbers: &str, plain: usize) {
 }
 
 fn query_line(report: &mut Report, shape: &Shape, n: usize, log: &[u8], rule: u8, bound: u16) {
+    let kind = shape.kind;
     let mut slot = [0; 768];
-    let answer = c::query(0, rule, bound, log, &mut slot);
+    let answer = c::query(kind, rule, bound, log, &mut slot);
     let found = plain::QueryAnswer {
         question: answer.question,
         index: answer.index,
@@ -241,14 +252,21 @@ fn query_line(report: &mut Report, shape: &Shape, n: usize, log: &[u8], rule: u8
     };
     let mut kept = plain::Kept::new();
     let (mut one, mut two) = ([0; 768], [0; 768]);
-    let anew = plain::query(&mut plain::Anew, black_box(0), rule, bound, log, &mut one);
-    let keeping = plain::query(&mut kept, black_box(0), rule, bound, log, &mut two);
+    let anew = plain::query(
+        &mut plain::Anew,
+        black_box(kind),
+        rule,
+        bound,
+        log,
+        &mut one,
+    );
+    let keeping = plain::query(&mut kept, black_box(kind), rule, bound, log, &mut two);
     assert_eq!(found, anew, "{} n={n}", shape.name);
     assert_eq!(found, keeping, "{} n={n}", shape.name);
     assert_eq!(slot, one, "{} n={n}", shape.name);
     assert_eq!(slot, two, "{} n={n}", shape.name);
     let what = if rule == c::ROWS { "limit" } else { "share" };
-    let input = || black_box((0, rule, bound, log));
+    let input = || black_box((kind, rule, bound, log));
     report.line(
         &format!("query, {}", shape.name),
         &format!(
@@ -274,11 +292,11 @@ fn query_line(report: &mut Report, shape: &Shape, n: usize, log: &[u8], rule: u8
 }
 
 /// The count of segments, the same for both.
-fn count_segments(log: &[u8]) -> usize {
+fn count_segments(log: &[u8], kind: u8) -> usize {
     let mut list = [c::Segment::default(); 255];
     let mut other = [plain::Segment::default(); 255];
-    let answer = c::segments(log, 0, &mut list);
-    let expected = plain::segments(log, black_box(0), &mut other);
+    let answer = c::segments(log, kind, &mut list);
+    let expected = plain::segments(log, black_box(kind), &mut other);
     assert_eq!((answer.question, answer.index, answer.count), expected);
     for (one, two) in list.iter().zip(&other) {
         assert_eq!(
@@ -293,7 +311,7 @@ fn count_segments(log: &[u8]) -> usize {
 fn slot_lines(report: &mut Report, wanted: usize) {
     let log = random(wanted);
     let mut slot = [0; 768];
-    let rows = c::query(0, c::ROWS, 64, &log, &mut slot).rows;
+    let rows = c::query(Kind::SUM.0, c::ROWS, 64, &log, &mut slot).rows;
     let slot = slot;
     let answer = c::read(&slot);
     let expected = plain::ReadAnswer {
@@ -345,11 +363,11 @@ fn slot_lines(report: &mut Report, wanted: usize) {
 }
 
 /// The smallest of some shares that 64 rows meet.
-fn share_met(log: &[u8]) -> Option<u16> {
+fn share_met(log: &[u8], kind: u8) -> Option<u16> {
     let mut slot = [0; 768];
     [10, 50, 100, 200, 400, 600, 700, 800, 900, 1000]
         .into_iter()
-        .find(|p| c::query(0, c::SHARE, *p, log, &mut slot).question == 0)
+        .find(|p| c::query(kind, c::SHARE, *p, log, &mut slot).question == 0)
 }
 
 fn main() {
@@ -374,14 +392,14 @@ fn main() {
     for shape in &SHAPES {
         for wanted in SIZES {
             let log = (shape.log)(wanted);
-            let n = count_segments(&log);
+            let n = count_segments(&log, shape.kind);
             for limit in LIMITS {
                 let mut slot = [0; 768];
-                if c::query(0, c::ROWS, limit, &log, &mut slot).question == 0 {
+                if c::query(shape.kind, c::ROWS, limit, &log, &mut slot).question == 0 {
                     query_line(&mut report, shape, n, &log, c::ROWS, limit);
                 }
             }
-            if let Some(share) = share_met(&log) {
+            if let Some(share) = share_met(&log, shape.kind) {
                 query_line(&mut report, shape, n, &log, c::SHARE, share);
             }
         }
@@ -391,7 +409,7 @@ fn main() {
     for shape in &SHAPES {
         for wanted in SIZES {
             let log = (shape.log)(wanted);
-            let n = count_segments(&log);
+            let n = count_segments(&log, shape.kind);
             let mut list = [c::Segment::default(); 255];
             let mut other = [plain::Segment::default(); 255];
             report.line(
@@ -399,10 +417,12 @@ fn main() {
                 &n.to_string(),
                 &mut [
                     &mut || {
-                        black_box(c::segments(black_box(&log), black_box(0), &mut list));
+                        let kind = black_box(shape.kind);
+                        black_box(c::segments(black_box(&log), kind, &mut list));
                     },
                     &mut || {
-                        black_box(plain::segments(black_box(&log), black_box(0), &mut other));
+                        let kind = black_box(shape.kind);
+                        black_box(plain::segments(black_box(&log), kind, &mut other));
                     },
                 ],
             );

@@ -7,6 +7,9 @@
 //! There are two versions of the query. They differ in where a block's error comes from: [`Anew`]
 //! works it out whenever a candidate asks for it, [`Kept`] works each out once per query.
 
+/// The greatest kind.
+const MOST_KIND: u8 = 4;
+
 /// A query's answer, with question 0 if it is accepted.
 #[derive(Clone, Copy, Debug, Default, PartialEq, Eq)]
 pub struct QueryAnswer {
@@ -149,7 +152,8 @@ fn find_segments(log: &[u8], kind: u8, list: &mut [Segment; 255]) -> usize {
                     0 => sum,
                     1 => records,
                     2 => least,
-                    _ => greatest,
+                    3 => greatest,
+                    _ => 100 * sum / records,
                 } as u32;
                 let last = (next - 1) as u16;
                 match list[start..n].last_mut() {
@@ -178,7 +182,7 @@ pub fn segments(log: &[u8], kind: u8, list: &mut [Segment]) -> (u8, usize, usize
     let Some(places) = list.first_chunk_mut::<255>() else {
         return (1, 0, 0);
     };
-    if kind > 3 {
+    if kind > MOST_KIND {
         return (2, 0, 0);
     }
     if let Err((question, index)) = ask_log(log) {
@@ -281,7 +285,7 @@ fn try_query(
     slot: &mut [u8],
 ) -> Result<QueryAnswer, No> {
     let slot = slot.first_chunk_mut::<768>().ok_or((1, 0))?;
-    if kind > 3 {
+    if kind > MOST_KIND {
         return Err((2, 0));
     }
     let limited = rule == 0x52;
@@ -406,7 +410,7 @@ fn ask_slot(slot: &[u8]) -> Result<(&[u8; 768], &[u8]), No> {
     if slot[..2] != [0x50, 0x48] {
         return Err((11, 0));
     }
-    if slot[2] > 3 {
+    if slot[2] > MOST_KIND {
         return Err((12, 0));
     }
     if slot[3] > 64 {

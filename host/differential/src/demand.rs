@@ -106,14 +106,15 @@ fn share(
 pub fn run_small(random: &mut Random, tried: &mut Tried) -> Result<(), String> {
     let records = small_records(random);
     let log = inputs::log_of(&records);
-    let kind = random.range(0, 3) as u8;
+    let kind = random.range(0, u64::from(reference::MOST_KIND)) as u8;
     let decoded = reference::records(&log);
     let frames = reference::covered(&decoded, kind);
     let segments = reference::segments_of(&decoded, kind);
 
     let least = brute::least_by_cuttings(&frames);
-    let greatest = frames.iter().map(|f| f.2).max().unwrap_or(0);
-    if frames.len() <= 5 && greatest <= 4 {
+    // At most so many numbers are tried for a row, and there are no more rows than frames.
+    let numbers = u64::from(frames.iter().map(|f| f.2).max().unwrap_or(0)) + 6;
+    if numbers.saturating_pow(frames.len() as u32) <= 100_000 {
         // A test of the measure and not of the library: the least errors by cuttings with the best
         // number each are those by every combination of numbers.
         assert_eq!(brute::least_by_lists(&frames), least, "{records:?}");
@@ -190,7 +191,9 @@ fn small_records(random: &mut Random) -> Vec<Fields> {
 /// One log of many frames, so that 64 rows can be too few, against a table over its frames.
 pub fn run_many(random: &mut Random, tried: &mut Tried) -> Result<(), String> {
     let count = random.range(40, 120);
-    let greatest = random.range(1, 9);
+    let kind = random.pick(&[0, 2, 3, 4]);
+    // Every number up to the greatest value is tried, and kind 4 has values 100 times as great.
+    let greatest = random.range(1, if kind == 4 { 2 } else { 9 });
     // One run, a few runs, or almost as many runs as frames.
     let apart = random.pick(&[0, 2, 10, 60, 95]);
     let mut frame = random.range(0, 5) as u16;
@@ -205,7 +208,6 @@ pub fn run_many(random: &mut Random, tried: &mut Tried) -> Result<(), String> {
         })
         .collect();
     let log = inputs::log_of(&records);
-    let kind = random.pick(&[0, 2, 3]);
     let decoded = reference::records(&log);
     let frames = reference::covered(&decoded, kind);
     let least = brute::least_by_table(&frames, 64);

@@ -242,9 +242,9 @@ pub fn damage_log(random: &mut Random, log: &mut Vec<u8>) {
 /// A kind, sometimes one that there is not.
 pub fn kind(random: &mut Random) -> u8 {
     if random.percent(4) {
-        random.pick(&[4, 5, 128, 255])
+        random.pick(&[5, 6, 128, 255])
     } else {
-        random.range(0, 3) as u8
+        random.range(0, u64::from(reference::MOST_KIND)) as u8
     }
 }
 
@@ -350,7 +350,8 @@ pub fn slot(random: &mut Random) -> Vec<u8> {
         }
     }
     let error = random.pick(&[0, 1, 11_280, u64::MAX]).wrapping_mul(3);
-    reference::layout(random.range(0, 3) as u8, error, &rows)
+    let kind = random.range(0, u64::from(reference::MOST_KIND)) as u8;
+    reference::layout(kind, error, &rows)
 }
 
 /// Makes some bytes of a slot wrong, or leaves it as it is.
@@ -363,7 +364,7 @@ pub fn damage_slot(random: &mut Random, slot: &mut [u8]) {
         let end = 12 + 11 * rows;
         match random.range(0, 9) {
             0 => slot[random.range(0, 1) as usize] ^= 1 << random.range(0, 7),
-            1 => slot[2] = random.pick(&[0, 3, 4, 255]),
+            1 => slot[2] = random.pick(&[0, 3, 4, 5, 255]),
             2 => slot[3] = random.pick(&[0, 63, 64, 65, 255]),
             3 => slot[3] = slot[3].wrapping_add(random.pick(&[1, 255])),
             4 => slot[random.range(4, 11) as usize] = random.next() as u8,

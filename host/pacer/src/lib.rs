@@ -68,7 +68,7 @@ pub const ROWS: usize = 64;
 
 /// What a frame's value is, over the records of its group that contain it.
 ///
-/// Any number can be asked for; one above 3 is question 2's 'no'.
+/// Any number can be asked for; one above 4 is question 2's 'no'.
 #[derive(Clone, Copy, Debug, PartialEq, Eq, PartialOrd, Ord, Hash)]
 pub struct Kind(pub u8);
 
@@ -81,6 +81,27 @@ impl Kind {
     pub const LEAST: Kind = Kind(2);
     /// The greatest load.
     pub const GREATEST: Kind = Kind(3);
+    /// The mean load in hundredths of a thousandth, rounded down: 100 times the sum of the loads
+    /// divided by the count of records.
+    ///
+    /// ```
+    /// use pacer::{Kind, Record, Segment, SEGMENT_PLACES};
+    ///
+    /// # fn main() -> Result<(), pacer::Refusal> {
+    /// // Loads 0, 0 and 1 at frame 0, and 0 and 1 at frame 1.
+    /// let log = pacer::log(&[
+    ///     Record { group: 0, first: 0, last: 0, load: 0 },
+    ///     Record { group: 0, first: 0, last: 1, load: 0 },
+    ///     Record { group: 0, first: 0, last: 1, load: 1 },
+    /// ])?;
+    /// let mut list = [Segment::default(); SEGMENT_PLACES];
+    /// let found = pacer::segments(&log, Kind::MEAN, &mut list)?;
+    /// let values: Vec<u32> = found.iter().map(|segment| segment.value).collect();
+    /// assert_eq!(values, [33, 50]);
+    /// # Ok(())
+    /// # }
+    /// ```
+    pub const MEAN: Kind = Kind(4);
 }
 
 /// One load of a subsystem over some frames.
@@ -131,11 +152,11 @@ pub struct Reduction {
 /// ```
 /// use pacer::{Bound, Kind, Query};
 ///
-/// let query = Query { kind: Kind(4), bound: Bound::Rows(65) };
+/// let query = Query { kind: Kind(5), bound: Bound::Rows(65) };
 /// let mut slot = [0; pacer::SLOT_BYTES];
 /// let refusal = pacer::query(query, &[], &mut slot).unwrap_err();
 /// assert_eq!((refusal.question, refusal.index), (2, 0));
-/// assert_eq!(refusal.to_string(), "question 2 got 'no': Is the kind 0 to 3?");
+/// assert_eq!(refusal.to_string(), "question 2 got 'no': Is the kind 0 to 4?");
 /// ```
 #[derive(Clone, Copy, Debug, PartialEq, Eq, Hash)]
 pub struct Refusal {
@@ -156,7 +177,7 @@ impl Refusal {
     pub fn words(&self) -> &'static str {
         match self.question {
             1 => "Is the lent buffer or list long enough (slot 768, segments 255, rows 64, record 9)?",
-            2 => "Is the kind 0 to 3?",
+            2 => "Is the kind 0 to 4?",
             3 => "Is c at most 64, or p at most 1,000?",
             4 => "Is the log's length a multiple of 9?",
             5 => "Has it at most 128 records?",
@@ -166,7 +187,7 @@ impl Refusal {
             9 => "Is the load at most 1,000?",
             10 => "Is c at least m; with a share, do 64 rows or fewer meet it?",
             11 => "Header mark right?",
-            12 => "Slot's kind 0 to 3?",
+            12 => "Slot's kind 0 to 4?",
             13 => "Row count at most 64?",
             14 => "Row mark right?",
             15 => "Row's group 0 to 7, first at most last, value at most 128,000?",

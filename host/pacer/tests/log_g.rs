@@ -177,6 +177,40 @@ fn walks_and_lists_of_rows() {
     assert_eq!(Walker::new(&slot).step().unwrap_err().question, 17);
 }
 
+/// Kind 4 by way of query, reader and lookup.
+#[test]
+fn means_of_g() {
+    let mut slot = [0; SLOT_BYTES];
+    let query = Query {
+        kind: Kind::MEAN,
+        bound: Bound::Rows(4),
+    };
+    let answer = pacer::query(query, &log_g(), &mut slot).unwrap();
+    assert_eq!((answer.error, answer.weighed), (25_666_667, 16));
+    let profile = pacer::read(&slot).unwrap();
+    assert_eq!(profile.kind(), Kind::MEAN);
+    assert_eq!(
+        profile.rows(),
+        [
+            row(0, 0, 3, 12_500),
+            row(0, 4, 6, 20_333),
+            row(0, 9, 10, 5_000),
+            row(1, 0, 0, 700),
+        ]
+    );
+    assert_eq!(profile.lookup(0, 5), Ok(Some(20_333)));
+
+    // The next kind is none.
+    let unknown = Query {
+        kind: Kind(5),
+        ..query
+    };
+    let before = slot;
+    let refusal = pacer::query(unknown, &log_g(), &mut slot).unwrap_err();
+    assert_eq!((refusal.question, refusal.index), (2, 0));
+    assert_eq!(slot, before);
+}
+
 #[test]
 fn rows_and_refusals() {
     let log = log_g();

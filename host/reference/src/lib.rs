@@ -14,6 +14,8 @@ pub mod brute;
 pub const ROWS: u8 = 0x52;
 /// The bound is an error share.
 pub const SHARE: u8 = 0x45;
+/// The greatest kind.
+pub const MOST_KIND: u8 = 4;
 
 /// The first question that got 'no', and the index of the record or row.
 #[derive(Clone, Copy, Debug, PartialEq, Eq)]
@@ -107,7 +109,7 @@ fn slot_questions(slot: &[u8]) -> Vec<Question> {
     }
     let count = usize::from(slot[3]);
     questions.push((11, 0, slot[..2] == [0x50, 0x48]));
-    questions.push((12, 0, slot[2] <= 3));
+    questions.push((12, 0, slot[2] <= MOST_KIND));
     questions.push((13, 0, count <= 64));
     if count > 64 {
         return questions;
@@ -149,11 +151,15 @@ fn value_of(of_group: &[Record], kind: u8, frame: u32) -> Option<u32> {
     if loads.is_empty() {
         return None;
     }
+    let sum: u32 = loads.iter().sum();
+    let count = loads.len() as u32;
     match kind {
-        0 => Some(loads.iter().sum()),
-        1 => Some(loads.len() as u32),
+        0 => Some(sum),
+        1 => Some(count),
         2 => loads.iter().copied().min(),
-        _ => loads.iter().copied().max(),
+        3 => loads.iter().copied().max(),
+        // The mean in hundredths, rounded down.
+        _ => Some(100 * sum / count),
     }
 }
 
@@ -205,7 +211,7 @@ pub fn segments_of(records: &[Record], kind: u8) -> Vec<Stretch> {
 
 /// The segment call: the segments, or the first question that got 'no'.
 pub fn segments(log: &[u8], kind: u8, places: usize) -> Result<Vec<Stretch>, No> {
-    ask([(1, 0, places >= 255), (2, 0, kind <= 3)])?;
+    ask([(1, 0, places >= 255), (2, 0, kind <= MOST_KIND)])?;
     ask(log_questions(log))?;
     Ok(segments_of(&records(log), kind))
 }
@@ -451,7 +457,7 @@ pub fn query(
     let bounded = (rule == ROWS && bound <= 64) || (rule == SHARE && bound <= 1000);
     ask([
         (1, 0, slot_length >= 768),
-        (2, 0, kind <= 3),
+        (2, 0, kind <= MOST_KIND),
         (3, 0, bounded),
     ])?;
     ask(log_questions(log))?;
@@ -601,6 +607,34 @@ mod tests {
         assert_eq!(outcome(ROWS, 0, &[]), Ok((0, 0)));
         let early = query(0, ROWS, 2, &frames(&[0, 1, 2, 100]), 768).unwrap();
         assert_eq!(early.weighed, 5);
+    }
+
+    /// Means in hundredths, rounded down; the means of G are cut at another frame than its sums.
+    #[test]
+    fn means() {
+        let values = |records: &[(u8, u16, u16, u16)]| -> Vec<u32> {
+            let segments = segments(&log(records), 4, 255).unwrap();
+            segments.iter().map(|segment| segment.value).collect()
+        };
+        assert_eq!(values(&[(0, 0, 0, 1), (0, 0, 0, 2)]), [150]);
+        assert_eq!(values(&[(0, 0, 0, 0), (0, 0, 1, 0), (0, 0, 0, 1)]), [33, 0]);
+        assert_eq!(values(&[(0, 5, 5, 0), (0, 5, 5, 1000)]), [50_000]);
+        assert_eq!(
+            values(&[(0, 5, 5, 999), (0, 5, 6, 1000)]),
+            [99_950, 100_000]
+        );
+        let answer = query(4, ROWS, 4, &log_g(), 768).unwrap();
+        assert_eq!((answer.error, answer.weighed), (25_666_667, 16));
+        let rows: Vec<_> = answer
+            .rows
+            .iter()
+            .map(|r| (r.first, r.last, r.value))
+            .collect();
+        assert_eq!(
+            rows,
+            [(0, 3, 12_500), (4, 6, 20_333), (9, 10, 5_000), (0, 0, 700)]
+        );
+        assert_eq!(segments(&[], 5, 255).unwrap_err().question, 2);
     }
 
     /// The segments of the first source's running example, and its Figures 4 and 5.

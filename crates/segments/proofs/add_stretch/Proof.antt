@@ -8,9 +8,8 @@ use Rattle.model.specs.Spans.{Span}
 use Rattle.model.specs.Segments.{framesFrom}
 use Rattle.model.specs.Arrays.{segmentsIn, segmentArrays}
 use Rattle.model.specs.declared.Segments.{Segments}
-use Rattle.tally.specs.Tally.{ownsIn, loadsAt, stopAt, surveyed, ownValue}
+use Rattle.tally.specs.Tally.{ownsIn, loadsAt, ownValue}
 use Rattle.segments.specs.Steps.{joined, segmentSpan, arraysOf}
-use Rattle.tally.specs.declared.Here.{Here}
 use Rattle.tally.specs.declared.Own.{Own}
 use Rattle.segments.proofs.Stretches.{stretch-none, stretch-one}
 use Rattle.segments.proofs.add_stretch.Statement.{statement}
@@ -25,14 +24,6 @@ made s = arraysOf (s .args .groups .now) (s .args .firsts .now) (s .args .lasts 
 
 abbrev frames : tie.Start → List (Span ℕ)
 frames s = framesFrom (ownValue (s .args .kind) (own s)) (s .args .group) (s .args .a) (suc (s .args .here .stop) - s .args .a) []
-
-stop : (s : tie.Start) → s .args .here .stop ≡ stopAt (s .args .a) (own s)
-unfolding surveyed
-stop s = ap (λ (here : Here). here .stop) (s .pre .1 .0)
-
-count : (s : tie.Start) → s .args .here .count ≡ length (loadsAt (s .args .a) (own s))
-unfolding surveyed
-count s = ap (λ (here : Here). here .count) (s .pre .1 .0)
 
 -- the frames are one span, with the value found
 one-span : (c : tie.After-value-at)
@@ -49,7 +40,7 @@ one-span : (c : tie.After-value-at)
 unfolding segmentSpan
 one-span c =
     let s = c .before .before .before in
-    rw (stop s)
+    rw (s .pre .1 .0 .stops)
     (stretch-one (s .args .kind) (own s) (s .args .group) (s .args .a) (omega arith) (segmentsIn (made s)) (c .value-at .result)
     (c .value-at .ensures))
 
@@ -57,8 +48,8 @@ returns : tie.Need-returns
 returns c =
     let s = c .before .before in
     rw (
-      stop s,
-      stretch-none (s .args .kind) (own s) (s .args .group) (s .args .a) (omega arith) (sym (count s) ∙ c .if1 .taken),
+      s .pre .1 .0 .stops,
+      stretch-none (s .args .kind) (own s) (s .args .group) (s .args .a) (omega arith) (sym (s .pre .1 .0 .counts) ∙ c .if1 .taken),
       append-nil,
     )
     (s .pre .1 .1 .0)
@@ -66,7 +57,7 @@ returns c =
 value-at-requires : tie.Need-value-at-requires
 value-at-requires c κs =
     let s = c .before .before in
-    (s .pre .0, (s .pre .1 .0, λ (none-held : length (loadsAt (s .args .a) (own s)) ≡ 0). c .if1 .left (count s ∙ none-held)))
+    (s .pre .0, (s .pre .1 .0, λ (none-held : length (loadsAt (s .args .a) (own s)) ≡ 0). c .if1 .left (s .pre .1 .0 .counts ∙ none-held)))
 
 extend-requires : tie.Need-extend-requires
 extend-requires c κs =

@@ -12,9 +12,8 @@ use Rattle.model.specs.Spans.{Span, frameCount}
 use Rattle.model.specs.Segments.{framesFrom}
 use Rattle.model.specs.Arrays.{segmentsIn, segmentArrays}
 use Rattle.model.specs.declared.Segments.{Segments}
-use Rattle.tally.specs.Tally.{ownsIn, surveyed, ownValue}
+use Rattle.tally.specs.Tally.{ownsIn, ownValue}
 use Rattle.segments.specs.Steps.{joined, arraysOf, Made}
-use Rattle.tally.specs.declared.Here.{Here}
 use Rattle.segments.proofs.Joining.{joined-le}
 use Rattle.segments.proofs.Storing.{made-by, made-behind}
 use Rattle.tally.proofs.Stops.{stop-from, stop-le}
@@ -49,12 +48,10 @@ so-far c = segmentsIn (arraysOf (c .loop .groups) (c .loop .firsts) (c .loop .la
 -- the next stretch lies among the frames left
 within : (c : tie.After-survey Inv-loop μ-loop)
     → (c .before .loop .a ≤ c .survey .result .stop) × (c .survey .result .stop ≤ 65535)
-unfolding surveyed
 within c =
     let s = c .before .before .before in
     let own = ownsIn (s .args .own-firsts .now) (s .args .own-lasts .now) (s .args .own-loads .now) (s .args .own) in
-    let stop = ap (λ (here : Here). here .stop) (c .survey .ensures) in
-    rw stop (stop-from (c .before .loop .a) own (c .before .loop .inv .0), stop-le (c .before .loop .a) own)
+    rw (c .survey .ensures .stops) (stop-from (c .before .loop .a) own (c .before .loop .inv .0), stop-le (c .before .loop .a) own)
 
 -- the frames up to the next event, those left, and all
 abbrev stretch : tie.After-survey Inv-loop μ-loop → List (Span ℕ)

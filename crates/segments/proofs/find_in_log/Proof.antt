@@ -5,7 +5,7 @@ use Prim.Native.Nat.{ℕ}
 use mathlib.Core.List.{List, []}
 use native.Mathlib.Omega.{arith}
 use borrow.Author.Tests.{le-leb, lt-leb}
-use Rattle.model.specs.Questions.{accepted, outcome, lent, ask, askRoom, kindKnown, logQuestions, mostSegments, segmentsQuestions}
+use Rattle.model.specs.Questions.{accepted, outcome, lent, ask, askRoom, mostKind, kindKnown, logQuestions, mostSegments, segmentsQuestions}
 use Rattle.model.specs.Calls.{askedCase, segmentsCase, segmentsOutcome, logSegments}
 use Rattle.model.specs.Arrays.{spansIn, column, recordsIn, segmentArrays}
 use Rattle.model.specs.Spans.{Span}
@@ -48,7 +48,7 @@ unfolding segmentsOutcome segmentsQuestions askRoom ask kindKnown outcome lent m
 returns-2 c =
     let a = c .before .before .before .before .args in
     let room = le-leb 255 (a .places) (omega (arith, c .before .before .if1 .left)) in
-    let unknown = lt-leb (a .kind) 3 (omega (arith, c .before .if2 .taken)) in
+    let unknown = lt-leb (a .kind) mostKind (omega (arith, c .before .if2 .taken)) in
     (c .refuse2 .ensures .0 ∙ simp (room, unknown), c .refuse2 .ensures .1 ∙ simp (room, unknown))
 
 ask-requires : tie.Need-ask-requires
@@ -80,7 +80,7 @@ returns-3 c =
     let a = d .before .before .before .before .before .before .before .args in
     let log : List ℕ = a .log .now in
     let room = le-leb 255 (a .places) (omega (arith, d .before .before .before .before .before .if1 .left)) in
-    let known = le-leb (a .kind) 3 (omega (arith, d .before .before .before .before .if2 .left)) in
+    let known = le-leb (a .kind) mostKind (omega (arith, d .before .before .before .before .if2 .left)) in
     let all = passed (d .before) in
     let found = c .find .ensures ∙ ap (λ (rs : List (Span ℕ)). segmentArrays (segments (a .kind) rs)) (of-log d) in (
       ap (λ (s : Segments). accepted (s .count)) found ∙ simp (room, known) (sym (all-outcome (logQuestions log) _ all)),
@@ -93,7 +93,7 @@ returns-4 c =
     let a = c .before .before .before .before .before .before .before .before .args in
     let log : List ℕ = a .log .now in
     let room = le-leb 255 (a .places) (omega (arith, c .before .before .before .before .before .before .if1 .left)) in
-    let known = le-leb (a .kind) 3 (omega (arith, c .before .before .before .before .before .if2 .left)) in
+    let known = le-leb (a .kind) mostKind (omega (arith, c .before .before .before .before .before .if2 .left)) in
     let g = c .before .before .refusal .given in
     let says = sym (c .before .before .before .before .ask .ensures) ∙ ap askedCase (g .1) in
     let n = g .0 .0 .question in

@@ -12,7 +12,7 @@ use lib.Dec.{leb}
 use lib.ListN.{length, getD}
 use Rattle.model.specs.Split.{mostRows}
 use Rattle.model.specs.Slot.{slotLength, slotKind, slotCount}
-use Rattle.model.specs.Questions.{ask, askRoom, outcome, marked, kindKnown, slotQuestions}
+use Rattle.model.specs.Questions.{ask, askRoom, outcome, marked, mostKind, kindKnown, slotQuestions}
 use Rattle.model.specs.Calls.{askedCase}
 use Rattle.theory.proofs.Asking.{denied, granted}
 use Rattle.slot.proofs.ask_header.Statement.{statement}
@@ -63,11 +63,11 @@ no-requires-3 c κs = search needs
 -- 12 is asked of the kind
 unknown : (c : tie.Then3) → kindKnown (slotKind (Slot (c .before .before .before .before))) ≡ false
 unfolding kindKnown slotKind
-unknown c = lt-leb (getD (Slot (c .before .before .before .before)) 2 0) 3 (omega arith)
+unknown c = lt-leb (getD (Slot (c .before .before .before .before)) 2 0) mostKind (omega arith)
 
 known : (c : tie.Else3) → kindKnown (slotKind (Slot (c .before .before .before .before))) ≡ true
 unfolding kindKnown slotKind
-known c = le-leb (getD (Slot (c .before .before .before .before)) 2 0) 3 (omega arith)
+known c = le-leb (getD (Slot (c .before .before .before .before)) 2 0) mostKind (omega arith)
 
 returns-3 : tie.Need-returns-3
 unfolding slotQuestions outcome ask askRoom askedCase

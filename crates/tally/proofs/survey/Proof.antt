@@ -4,7 +4,7 @@ use borrow.Author.Needs.{needs}
 use Prim.Native.Nat.{_+_, _-_, _*_, _≤_}
 use mathlib.Core.Path.{_≡_, _∙_}
 use native.Mathlib.Omega.{arith}
-use Rattle.tally.specs.Tally.{ownIn, surveyed}
+use Rattle.tally.specs.Tally.{ownIn}
 use Rattle.tally.proofs.Loads.{byte-le, Surveying, survey-none, survey-more, survey-all}
 use Rattle.tally.proofs.survey.Statement.{statement}
 use Rattle.tally.proofs.survey.Tie as tie
@@ -77,7 +77,6 @@ add-t19 : tie.Need-add-t19 Inv-loop μ-loop
 add-t19 c = omega arith
 
 returns : tie.Need-returns Inv-loop μ-loop
-unfolding surveyed
 returns c =
     let a = c .before .before .before .before .args in
     let l = c .before .before .before .loop in
@@ -85,7 +84,7 @@ returns c =
     let all = survey-all (a .a) h (a .own) (l .index) (l .stop) (l .count) (l .low) (l .high) (c .before .before .loop-test .left) (l .inv .1) in
     let total : c .before .wide .result + 256 * c .wide2 .result ≡ l .low + 256 * l .high =
     omega (arith, c .before .wide .ensures, c .wide2 .ensures) in
-    λ i. record { stop = all .0 i; count = all .1 i; sum = (total ∙ all .2) i }
+    record { stops = all .0; counts = all .1; sums = total ∙ all .2; sum-le = omega arith }
 
 pub survey-spec : {M : Type 1} → statement M
 survey-spec =
