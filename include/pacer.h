@@ -40,7 +40,7 @@
 #include <stdint.h>
 
 /* The version of the library that this header describes. */
-#define PACER_VERSION "0.9.0"
+#define PACER_VERSION "0.9.1"
 
 #ifdef __cplusplus
 extern "C" {

@@ -1,20 +1,17 @@
--- The code's comparisons are the questions' tests: two bytes compared as one number, frames of any groups compared by their
--- places, and bytes compared with zero all at once. Assumes nothing.
-use Prim.Native.Nat.{ℕ, zero, suc, _+_, _-_, _*_, _<_}
+-- The code's comparisons are the questions' tests: two bytes compared as one number, and frames of any groups compared by their
+-- places. Assumes nothing.
+use Prim.Native.Nat.{ℕ, zero, suc, _+_, _*_, _<_}
 use mathlib.Core.Bool.{_&&_, _||_}
 use mathlib.Core.List.{List}
 use mathlib.Core.Path.{_≡_, sym}
 use native.Mathlib.Omega.{arith}
-use native.Mathlib.Numerals.{add-one}
 use borrow.Author.Tests.{ltb-true, ltb-false, eqb-true, eqb-false, le-leb, lt-leb, eq-eqb, ne-eqb}
-use lib.Bits.{bitOr, or-add-and, and-le-r}
 use lib.Dec.{leb, ltb, eqb}
 use lib.ListN.{getD}
 use Rattle.model.specs.Common.{numberAt}
 use Rattle.model.specs.Slot.{slotRow}
-use Rattle.model.specs.Questions.{marked, follows, inOrder, zeros}
+use Rattle.model.specs.Questions.{marked, follows, inOrder}
 use Rattle.theory.proofs.Tests.{cases}
-use Rattle.theory.proofs.Lists.{one-more}
 use Rattle.slot.specs.Places.{placeOf, leastPlace}
 
 -- a mark is compared as one number
@@ -29,18 +26,6 @@ marked-number bytes i a b small small-a =
     (cases (eqb high b) (λ q. rw q (eq-eqb (numberAt 2 bytes i) (a + 256 * b) (omega (arith, eqb-true))))
     (λ q. rw q (ne-eqb (numberAt 2 bytes i) (a + 256 * b) (λ e. eqb-false high b q (omega (arith, eqb-true)))))))
     (λ p. rw p (ne-eqb (numberAt 2 bytes i) (a + 256 * b) (λ e. eqb-false low a p (omega arith))))
-
--- two bytes or-ed are zero if both are
-pub or-zero : (a b : ℕ) → eqb (bitOr a b) 0 ≡ eqb a 0 && eqb b 0
-or-zero a b =
-    cases (eqb a 0) (λ p. rw (eqb-true a 0 p))
-    (λ p. rw p (ne-eqb (bitOr a b) 0 (λ e. eqb-false a 0 p (omega (arith, or-add-and a b, and-le-r a b)))))
-
--- the test of the bytes from i on
-pub zeros-turn : (bytes : List ℕ) (i n : ℕ) → i < n
-    → zeros bytes i (n - i) ≡ eqb (getD bytes i 0) 0 && zeros bytes (i + 1) (n - (i + 1))
-unfolding zeros
-zeros-turn bytes i n lt = rw (add-one i) (one-more (zeros bytes i) i n lt)
 
 -- places are ordered as groups are, and as frames in a group
 places : (g f h l : ℕ) → f < 65536 → l < 65536 → ltb h g || (eqb g h && ltb l f) ≡ leb (placeOf h l + 1) (placeOf g f)

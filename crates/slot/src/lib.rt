@@ -12,10 +12,10 @@ use model::MOST_VALUE;
 use model::Row;
 use model::SLOT_LENGTH;
 ghost use mathlib.Core.Path.{_≡_};
-ghost use Prim.Native.Nat.{_+_, _-_, _≤_, _<_};
+ghost use Prim.Native.Nat.{_+_, _≤_, _<_};
 ghost use lib.ListN.{length, take};
 ghost use Rattle.model.specs.Slot.{slotRow};
-ghost use Rattle.model.specs.Questions.{outcome, each, marked, rowKnown, rowQuestions, zeros, slotQuestions};
+ghost use Rattle.model.specs.Questions.{outcome, each, marked, rowKnown, rowQuestions, slotQuestions};
 ghost use Rattle.model.specs.Calls.{rowSpan, rowOfSpan, askedCase};
 ghost use Rattle.slot.specs.Places.{placeOf, leastPlace};
 
@@ -113,21 +113,6 @@ fn ask_rows(slot: &[u8], count: usize) -> Asked
     Asked::Passed
 }
 
-// Question 17's: whether all bytes from place `from` on, to the slot's last, are zero. They are or-ed together and compared
-// once, so that the loop has no branch.
-fn zero_tail(slot: &[u8], from: usize) -> bool
-    requires { ⌜ (from ≤ 768) × (768 ≤ length (now slot)) ⌝ }
-    ensures { λ r. ⌜ r ≡ zeros (now (slot .entry)) from (768 - from) ⌝ }
-{
-    let mut any: u8 = 0;
-    let mut i = from;
-    while i < SLOT_LENGTH {
-        any = any | slot[i];
-        i += 1;
-    }
-    any == 0
-}
-
 // Asks a slot's questions: 1 and 11 to 17.
 pub fn ask(slot: &[u8]) -> Asked
     ensures { λ r. ⌜ askedCase r ≡ outcome (slotQuestions (now (slot .entry))) tt ⌝ }
@@ -141,7 +126,7 @@ pub fn ask(slot: &[u8]) -> Asked
             match rows {
                 Asked::Refused(r) => Asked::Refused(r),
                 Asked::Passed => {
-                    if zero_tail(slot, place(count)) {
+                    if tail::is_zero(slot, place(count), SLOT_LENGTH) {
                         Asked::Passed
                     } else {
                         no(17, 0)

@@ -307,13 +307,17 @@ fn count_segments(log: &[u8], kind: u8) -> usize {
     answer.count
 }
 
-/// Read and lookup on a slot of so many rows.
-fn slot_lines(report: &mut Report, wanted: usize) {
-    let log = random(wanted);
+/// The slot that a query writes for a log of so many segments, at most 64.
+fn slot_of(wanted: usize) -> [u8; 768] {
     let mut slot = [0; 768];
-    let rows = c::query(Kind::SUM.0, c::ROWS, 64, &log, &mut slot).rows;
-    let slot = slot;
-    let answer = c::read(&slot);
+    let answer = c::query(Kind::SUM.0, c::ROWS, 64, &random(wanted), &mut slot);
+    assert_eq!((answer.question, answer.rows), (0, wanted));
+    slot
+}
+
+/// What the reader says of a slot, the same for both.
+fn read_answer(slot: &[u8; 768]) -> c::ReadAnswer {
+    let answer = c::read(slot);
     let expected = plain::ReadAnswer {
         question: answer.question,
         index: answer.index,
@@ -321,7 +325,40 @@ fn slot_lines(report: &mut Report, wanted: usize) {
         rows: answer.rows,
         error: answer.error,
     };
-    assert_eq!(plain::read(&slot), expected);
+    assert_eq!(plain::read(slot), expected);
+    answer
+}
+
+/// How many slots are read one after the other, as at boot.
+const SLOTS: usize = 400;
+
+/// The reading of many slots.
+fn boot_line(report: &mut Report, rows: &str, slots: &[[u8; 768]]) {
+    for slot in slots {
+        read_answer(slot);
+    }
+    report.line(
+        &format!("read {} slots", slots.len()),
+        rows,
+        &mut [
+            &mut || {
+                for slot in black_box(slots) {
+                    black_box(c::read(slot));
+                }
+            },
+            &mut || {
+                for slot in black_box(slots) {
+                    black_box(plain::read(slot));
+                }
+            },
+        ],
+    );
+}
+
+/// Read and lookup on a slot of so many rows.
+fn slot_lines(report: &mut Report, wanted: usize) {
+    let slot = slot_of(wanted);
+    let rows = read_answer(&slot).rows;
     report.line(
         "read",
         &rows.to_string(),
@@ -430,9 +467,15 @@ fn main() {
     }
 
     head("rows", 1);
-    for wanted in [0, 6, 20, 64] {
+    let sizes = [0, 6, 20, 64];
+    for wanted in sizes {
         slot_lines(&mut report, wanted);
     }
+    for wanted in sizes {
+        boot_line(&mut report, &wanted.to_string(), &[slot_of(wanted); SLOTS]);
+    }
+    let mixed: Vec<_> = (0..SLOTS).map(|i| slot_of(noise(i) % 65)).collect();
+    boot_line(&mut report, "0 to 64", &mixed);
 
     println!();
     for (name, ratios) in PLAIN.iter().zip(&report.ratios) {

@@ -345,7 +345,7 @@ fn read_rows(
 }
 
 /// The calls on a slot: read, read_rows, row_at for every number, and some lookups.
-fn slot_calls(random: &mut Random, slot: &[u8], seen: &mut Seen) -> Result<(), String> {
+pub fn slot_calls(random: &mut Random, slot: &[u8], seen: &mut Seen) -> Result<(), String> {
     let expected = reference::read(slot);
     let (question, index) = number(&expected);
     seen.slot[usize::from(question)] += 1;

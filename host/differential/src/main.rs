@@ -3,9 +3,10 @@
 //!     differential [CASES] [--seed SEED] [--only PART CASE]
 //!
 //! Runs CASES random cases (100,000 if no number is given), a fifth as many small logs (at least
-//! 20,000) against every fitting list, and some logs of many frames against a table over their
-//! frames. The seed is fixed unless one is given, and is printed. A difference is printed with
-//! the words that run its case alone, and the status is then 1.
+//! 20,000) against every fitting list, some logs of many frames against a table over their
+//! frames, and for every row count the slots with one bit of the tail set. The seed is fixed
+//! unless one is given, and is printed. A difference is printed with the words that run its case
+//! alone, and the status is then 1.
 
 #![forbid(unsafe_code)]
 
@@ -13,6 +14,7 @@ mod compare;
 mod demand;
 mod inputs;
 mod random;
+mod tails;
 
 use compare::Seen;
 use demand::Tried;
@@ -25,23 +27,29 @@ const SEED: u64 = 20_240_601;
 const CASES: u64 = 100_000;
 const SMALL_LOGS: u64 = 20_000;
 const LONG_LOGS: u64 = 400;
+/// The row counts of a slot, 0 to 64.
+const ROW_COUNTS: u64 = 65;
+/// The bits of their tails: 756 bytes behind the header, less 11 for each row.
+const TAIL_BITS: u64 = 8 * (ROW_COUNTS * 756 - 11 * (64 * 65 / 2));
 
-/// The three parts of a run.
+/// The parts of a run.
 #[derive(Clone, Copy, PartialEq)]
 enum Part {
     Random,
     Small,
     Many,
+    Tails,
 }
 
 impl Part {
-    const ALL: [Part; 3] = [Part::Random, Part::Small, Part::Many];
+    const ALL: [Part; 4] = [Part::Random, Part::Small, Part::Many, Part::Tails];
 
     fn name(self) -> &'static str {
         match self {
             Part::Random => "random",
             Part::Small => "small",
             Part::Many => "many",
+            Part::Tails => "tails",
         }
     }
 
@@ -51,6 +59,7 @@ impl Part {
             Part::Random => compare::run(&mut random, &mut counts.seen),
             Part::Small => demand::run_small(&mut random, &mut counts.tried),
             Part::Many => demand::run_many(&mut random, &mut counts.tried),
+            Part::Tails => tails::run(&mut random, case, &mut counts.seen),
         }
     }
 }
@@ -176,7 +185,9 @@ fn arguments() -> Option<Arguments> {
 
 fn main() -> ExitCode {
     let Some(arguments) = arguments() else {
-        eprintln!("usage: differential [CASES] [--seed SEED] [--only random|small|many CASE]");
+        eprintln!(
+            "usage: differential [CASES] [--seed SEED] [--only random|small|many|tails CASE]"
+        );
         return ExitCode::from(2);
     };
     let seed = arguments.seed;
@@ -198,6 +209,7 @@ fn main() -> ExitCode {
             Part::Random => arguments.cases,
             Part::Small => SMALL_LOGS.max(arguments.cases / 5),
             Part::Many => LONG_LOGS.max(arguments.cases / 250),
+            Part::Tails => ROW_COUNTS,
         };
         let start = Instant::now();
         let counts = match run_all(part, seed, cases) {
@@ -238,6 +250,16 @@ fn main() -> ExitCode {
                 "{cases} logs against a table over their frames, {} queries, {} refused: no difference ({seconds:.1} s)",
                 counts.tried.queries, counts.tried.refused
             ),
+            Part::Tails => {
+                let (accepted, refused) = (counts.seen.slot[0], counts.seen.slot[17]);
+                println!(
+                    "{cases} row counts, {refused} slots with one bit of the tail set: no difference ({seconds:.1} s)"
+                );
+                if (accepted, refused) != (ROW_COUNTS, TAIL_BITS) {
+                    println!("expected {ROW_COUNTS} slots with a tail of zeros, and {TAIL_BITS} with a bit set");
+                    return ExitCode::FAILURE;
+                }
+            }
         }
     }
     println!("differential: ok");

@@ -350,6 +350,18 @@ pub fn query(query: Query, log: &[u8], slot: &mut [u8]) -> Result<Reduction, Ref
 /// assert_eq!(pacer::read(&slot).unwrap_err().question, 17);
 /// # Ok::<(), pacer::Refusal>(())
 /// ```
+///
+/// At boot, a title's slots one after the other. All of a slot is asked, its empty places too:
+///
+/// ```
+/// let mut slots = vec![[0; pacer::SLOT_BYTES]; 400];
+/// for slot in &mut slots {
+///     slot[..2].copy_from_slice(&[0x50, 0x48]);
+/// }
+/// slots[123][500] = 1;
+/// let damaged = slots.iter().position(|slot| pacer::read(slot).is_err());
+/// assert_eq!(damaged, Some(123));
+/// ```
 pub fn read(slot: &[u8]) -> Result<Profile<'_>, Refusal> {
     let mut list = [Row::default(); ROWS];
     let answer = c::read_rows(slot, &mut list);

@@ -53,9 +53,9 @@ enum-told-2 c = search needs
 place-requires : tie.Need-place-requires
 place-requires c κs = let s = sizes (c .before .before .before .before .before) in search needs
 
-zero-tail-requires : tie.Need-zero-tail-requires
+is-zero-requires : tie.Need-is-zero-requires
 unfolding rowPlace
-zero-tail-requires c κs = let s = sizes (c .before .before .before .before .before .before) in search needs
+is-zero-requires c κs = let s = sizes (c .before .before .before .before .before .before) in search needs
 
 no-requires : tie.Need-no-requires
 no-requires c κs = search needs
@@ -68,15 +68,15 @@ unfolding slotCount
 rows c = c .ask-rows .ensures ∙ rw (c .before .wide .ensures)
 
 -- the tail's test is that of 17
-tail : (c : tie.After-zero-tail) → c .zero-tail .result ≡ tailZero (Slot (c .before .before .before .before .before .before .before))
+tail : (c : tie.After-is-zero) → c .is-zero .result ≡ tailZero (Slot (c .before .before .before .before .before .before .before))
 unfolding tailZero slotCount slotLength
 tail c =
     let w = c .before .before .before .before .before in
-    c .zero-tail .ensures ∙ rw (c .before .place .ensures, w .wide .ensures)
+    c .is-zero .ensures ∙ rw (c .before .place .ensures, w .wide .ensures)
 
 -- what 17 answers is what all answer
-last : (c : tie.After-zero-tail)
-    → answer (ask 17 0 (c .zero-tail .result) ∷ []) ≡ answer (slotQuestions (Slot (c .before .before .before .before .before .before .before)))
+last : (c : tie.After-is-zero)
+    → answer (ask 17 0 (c .is-zero .result) ∷ []) ≡ answer (slotQuestions (Slot (c .before .before .before .before .before .before .before)))
 unfolding askedCase
 last c =
     let r = c .before .before in
@@ -118,7 +118,7 @@ ask-spec =
     enum-known-rows
     enum-told-2
     place-requires
-    zero-tail-requires
+    is-zero-requires
     no-requires
     returns
     returns-2
