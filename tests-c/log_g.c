@@ -263,6 +263,19 @@ static void test_read(uint8_t *slot, size_t length)
         SAME(a.error, 0);
         slot[cases[i].byte] = kept;
     }
+
+    /* Each byte behind the rows, and the bytes behind the slot, which are no part of it. */
+    for (size_t byte = 12 + 11 * 4; byte < PACER_SLOT_BYTES; byte++) {
+        slot[byte] = 0x80;
+        SAME(pacer_read(slot, length).question, 17);
+        slot[byte] = 0;
+    }
+    for (size_t byte = PACER_SLOT_BYTES; byte < length; byte++) {
+        uint8_t kept = slot[byte];
+        slot[byte] = 0x80;
+        SAME(pacer_read(slot, length).question, 0);
+        slot[byte] = kept;
+    }
 }
 
 static void test_read_rows(uint8_t *slot, size_t length)
