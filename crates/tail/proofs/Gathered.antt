@@ -72,12 +72,14 @@ number-zero (suc width) bytes at =
 
 -- ---- what is gathered so far, `size` bytes from `at` on
 
+-- two tests of two each, in another order
 two-pairs : (a b c d : Bool) → (a && b) && (c && d) ≡ (a && c) && (b && d)
 two-pairs false b c d = refl
 two-pairs true true c d = refl
 two-pairs true false c d = sym (and-false c)
 
 module _ (width : ℕ) (bytes : List ℕ) where
+  -- a number that was read from the bytes at i
   number-at : (number i : ℕ) → number ≡ numberAt width bytes i → eqb number 0 ≡ zeros bytes i width
   number-at number i e = rw e (number-zero width bytes i)
 

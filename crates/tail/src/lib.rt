@@ -68,10 +68,11 @@ pub fn is_zero(bytes: &[u8], from: usize, to: usize) -> bool
     ensures { λ r. ⌜ r ≡ zeros (now (bytes .entry)) from (to - from) ⌝ }
 {
     let size = to - from;
-    let in_blocks = size / 64;
-    let in_words = size % 64 / 8;
-    let behind_blocks = from + 64 * in_blocks;
-    let odd = behind_blocks + 8 * in_words;
-    let any = blocks(bytes, from, in_blocks) | words(bytes, behind_blocks, in_words);
+    let whole_blocks = size / 64;
+    // A remainder, so that the compiler knows that these words are fewer than eight.
+    let whole_words = size % 64 / 8;
+    let behind_blocks = from + 64 * whole_blocks;
+    let odd = behind_blocks + 8 * whole_words;
+    let any = blocks(bytes, from, whole_blocks) | words(bytes, behind_blocks, whole_words);
     (any == 0) & singly(bytes, odd, to)
 }

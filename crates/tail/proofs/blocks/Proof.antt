@@ -15,19 +15,19 @@ use Rattle.tail.proofs.blocks.Statement.{statement}
 use Rattle.tail.proofs.blocks.Tie as tie
 
 -- so many bytes are gathered
-abbrev Gathered : List ℕ → ℕ → ℕ → ℕ → ℕ → ℕ → Type 0
-Gathered bytes at first second i size = (i ≡ at + size) × (eqb first 0 && eqb second 0 ≡ zeros bytes at size)
+abbrev SoFar : List ℕ → ℕ → ℕ → ℕ → ℕ → ℕ → Type 0
+SoFar bytes at first second i size = (i ≡ at + size) × (eqb first 0 && eqb second 0 ≡ zeros bytes at size)
 
 abbrev Inv-loop2 : tie.InvT-loop2
 Inv-loop2 bytes at count first₀ second₀ i₀ k j₀ first second i j =
-    (k < count) × (j ≤ 4) × Gathered bytes at first second i (64 * k + 16 * j)
+    (k < count) × (j ≤ 4) × SoFar bytes at first second i (64 * k + 16 * j)
 
 abbrev μ-loop2 : tie.MeasureT-loop2
 μ-loop2 bytes at count first₀ second₀ i₀ k j₀ first second i j = 4 - j
 
 abbrev Inv-loop : tie.InvT-loop
 Inv-loop bytes at count first₀ second₀ i₀ k₀ first second i k =
-    (k ≤ count) × Gathered bytes at first second i (64 * k)
+    (k ≤ count) × SoFar bytes at first second i (64 * k)
 
 abbrev μ-loop : tie.MeasureT-loop
 μ-loop bytes at count first₀ second₀ i₀ k₀ first second i k = count - k
