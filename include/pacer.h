@@ -40,7 +40,7 @@
 #include <stdint.h>
 
 /* The version of the library that this header describes. */
-#define PACER_VERSION "0.9.1"
+#define PACER_VERSION "0.10.0"
 
 #ifdef __cplusplus
 extern "C" {
@@ -69,7 +69,7 @@ enum {
     PACER_SUM = 0,      /* sum of the loads */
     PACER_COUNT = 1,    /* count of records */
     PACER_LEAST = 2,    /* least load */
-    PACER_GREATEST = 3, /* greatest load */
+    PACER_GREATEST = 3, /* greatest load; a row holds the greatest value in it */
     PACER_MEAN = 4      /* mean load in hundredths: 100 * sum / count, rounded down */
 };
 
@@ -156,6 +156,9 @@ struct pacer_record_answer pacer_write_record(uint8_t group, uint16_t first, uin
  * Asks 1 (768 bytes of slot), 2, 3, 4, 5, then 6 to 9 for record after record, then 10.
  * Accepted: the first 768 bytes of the slot are header, rows and zeros; the others keep their
  * content. The answer gives the count of rows, their error and the number of cuts weighed.
+ * A row's value is the whole number nearest to the mean of the values in it, the lower one at a
+ * half; with PACER_GREATEST it is the greatest of them, so that no frame needs more than its row
+ * says. The error is that of these values.
  * Refused: the slot is unchanged; rows, error and weighed are 0.
  * `log` and `slot` must not overlap.
  */

@@ -231,6 +231,55 @@ static void test_mean(const uint8_t *log)
     SAME(pacer_lookup(slot, sizeof slot, 0, 4).value, 20333);
 }
 
+/* Kind 3: rows hold the greatest value in them, and a share is taken of their own least error; a
+ * slot of kind 3 of before, whose rows hold nearest means, is read as ever.
+ */
+static void test_greatest(const uint8_t *log)
+{
+    static const struct {
+        uint8_t rule;
+        uint16_t bound;
+        size_t rows;
+        uint64_t error;
+        uint64_t weighed;
+        uint32_t at_frame_2;
+    } cases[] = {
+        {PACER_ROWS, 3, 3, 24600, 8, 210}, {PACER_ROWS, 4, 4, 400, 10, 210},
+        {PACER_ROWS, 5, 5, 0, 11, 200},    {PACER_SHARE, 16, 5, 0, 11, 200},
+        {PACER_SHARE, 17, 4, 400, 10, 210}, {PACER_SHARE, 26, 4, 400, 10, 210},
+    };
+    static uint8_t slot[PACER_SLOT_BYTES];
+    static const uint8_t of_before[] = {
+        0x50, 0x48, 0x03, 0x01, 0x01, 0x00, 0x00, 0x00, 0x00, 0x00, 0x00, 0x00,
+        0x50, 0x52, 0x00, 0x00, 0x00, 0x01, 0x00, 0x00, 0x00, 0x00, 0x00,
+    };
+    uint8_t two[18];
+
+    for (size_t i = 0; i < sizeof cases / sizeof cases[0]; i++) {
+        const struct pacer_query_answer a = pacer_query(PACER_GREATEST, cases[i].rule,
+                                                        cases[i].bound, log, 45, slot, sizeof slot);
+        ANSWER(a, 0, 0, cases[i].rows, cases[i].error, cases[i].weighed);
+        SAME(pacer_read(slot, sizeof slot).kind, PACER_GREATEST);
+        SAME(pacer_read(slot, sizeof slot).error, cases[i].error);
+        SAME(pacer_lookup(slot, sizeof slot, 0, 2).value, cases[i].at_frame_2);
+        SAME(pacer_lookup(slot, sizeof slot, 0, 6).value, 210);
+    }
+
+    /* Loads 0 and 1 in one row: 1, with error 1; before it held 0, with the same error. */
+    SAME(pacer_write_record(0, 0, 0, 0, two, 9).question, 0);
+    SAME(pacer_write_record(0, 1, 1, 1, two + 9, 9).question, 0);
+    ANSWER(pacer_query(PACER_GREATEST, PACER_ROWS, 1, two, 18, slot, sizeof slot), 0, 0, 1, 1, 0);
+    SAME(pacer_lookup(slot, sizeof slot, 0, 0).value, 1);
+    memset(slot, 0, sizeof slot);
+    memcpy(slot, of_before, sizeof of_before);
+    SAME(pacer_read(slot, sizeof slot).question, 0);
+    SAME(pacer_read(slot, sizeof slot).kind, PACER_GREATEST);
+    SAME(pacer_read(slot, sizeof slot).error, 1);
+    SAME(pacer_row_at(slot, sizeof slot, 0).found, 1);
+    SAME(pacer_lookup(slot, sizeof slot, 0, 1).covered, 1);
+    SAME(pacer_lookup(slot, sizeof slot, 0, 1).value, 0);
+}
+
 static void test_read(uint8_t *slot, size_t length)
 {
     struct pacer_read_answer a = pacer_read(slot, length);
@@ -380,6 +429,7 @@ int main(void)
     test_segments(log);
     test_query(log, slot, sizeof slot);
     test_mean(log);
+    test_greatest(log);
     test_read(slot, sizeof slot);
     test_read_rows(slot, sizeof slot);
     test_row_at(slot, sizeof slot);

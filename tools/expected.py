@@ -47,6 +47,7 @@ def mean_in_hundredths(loads):
 
 AGGREGATES = [sum, len, min, max, mean_in_hundredths]
 KINDS = range(len(AGGREGATES))
+GREATEST = AGGREGATES.index(max)
 
 
 def aggregate(kind, loads):
@@ -92,15 +93,18 @@ def nearest(mean):
 
 
 class Blocks:
-    """Row value and error of every block that no gap lies within."""
+    """Row value and error of every block that no gap lies within, by the kind."""
 
-    def __init__(self, segments):
+    def __init__(self, segments, kind):
         self.segments = segments
+        self.kind = kind
         self.known = {}
 
     def row_value(self, j, i):
         """The row value of the block of segments j+1 to i."""
         block = self.segments[j:i]
+        if self.kind == GREATEST:
+            return max(value for _, _, _, value in block)
         length = sum(last - first + 1 for _, first, last, _ in block)
         total = sum((last - first + 1) * value for _, first, last, value in block)
         return nearest(Fraction(total, length))
@@ -122,9 +126,9 @@ class Blocks:
 class SplitTable:
     """E(k,i) and the cut kept for it, row after row, with the cuts weighed."""
 
-    def __init__(self, segments):
+    def __init__(self, segments, kind):
         self.n = len(segments)
-        self.blocks = Blocks(segments)
+        self.blocks = Blocks(segments, kind)
         self.gaps = [j for j in range(1, self.n) if is_gap(segments, j)]
         self.least = {}
         self.cut = {}
@@ -165,9 +169,9 @@ class SplitTable:
         return rows[::-1]
 
 
-def reduction(segments, rule, bound):
+def reduction(segments, kind, rule, bound):
     """Rows, error and weighed cuts, or None for 'too few rows'."""
-    table = SplitTable(segments)
+    table = SplitTable(segments, kind)
     n = table.n
     runs = len(table.gaps) + 1 if n else 0
     if n == 0:
@@ -214,7 +218,7 @@ def profile(data):
     for number, index, yes in questions(kind, rule, bound, log):
         if not yes:
             return f"no {number} {index}\n"
-    answer = reduction(segments_of(log, kind), rule, bound)
+    answer = reduction(segments_of(log, kind), kind, rule, bound)
     if answer is None:
         return "no 10 0\n"
     rows, error, weighed = answer
@@ -398,6 +402,23 @@ def means():
         yield case(4, ROWS, c, log_of(alike))
 
 
+def greatest():
+    """Kind 3, where the greatest value of a row is not its nearest mean: errors above the sum of
+    squares, and shares of a least error that nearest means would not have."""
+    uneven = [(2, 0, 9, 0), (2, 4, 5, 1000), (2, 10, 10, 999), (2, 12, 20, 3), (2, 14, 14, 4),
+              (5, 0, 65535, 1), (5, 9, 9, 2)]
+    loads = [[0, 1], [1, 0], [0, 1, 0], [0, 4, 8], [8, 4, 0], [0, 0, 0, 9, 9], [9, 0, 0, 9],
+             [0, 1, 2, 100], [100, 2, 1, 0], [5], [1000, 0, 1000], [3, 1, 4, 1, 5, 9, 2, 6, 5, 3]]
+    for log in [uneven] + [frames(each) for each in loads]:
+        for c in (1, 2, 3, 4, 5):
+            yield case(GREATEST, ROWS, c, log_of(log))
+        for p in (0, 1, 10, 50, 100, 200, 300, 400, 500, 700, 900, 999, 1000):
+            yield case(GREATEST, SHARE, p, log_of(log))
+    # With M by nearest means, or with all errors by them, some of these would have other rows.
+    for p in (5, 6, 15, 16, 17, 18, 25, 26, 27):
+        yield case(GREATEST, SHARE, p, log_of(LOG_G))
+
+
 def at_random():
     """Small logs with many overlaps, equal values and ties."""
     numbers = random.Random(7)
@@ -416,7 +437,8 @@ def at_random():
 def all_cases():
     """Every case once, in order."""
     return list(dict.fromkeys(itertools.chain(
-        played_through(), published(), refusals(), short_inputs(), longest(), means(), at_random())))
+        played_through(), published(), refusals(), short_inputs(), longest(), means(), greatest(),
+        at_random())))
 
 
 def check_known():
@@ -438,6 +460,13 @@ def check_known():
         150, 33, 66, 50000]
     assert profile(case(4, ROWS, 4, g)) == (
         "4 25666667 16\n0 0 3 12500\n0 4 6 20333\n0 9 10 5000\n1 0 0 700\n")
+    # Rows of the greatest load, and shares of their own least error.
+    assert profile(case(GREATEST, ROWS, 1, log_of(frames([0, 1])))) == "1 1 0\n0 0 1 1\n"
+    assert profile(case(GREATEST, ROWS, 1, log_of(frames([0, 0, 0, 9, 9])))) == "1 243 0\n0 0 4 9\n"
+    assert profile(case(GREATEST, ROWS, 3, g)).startswith("3 24600 ")
+    assert reduction(segments_of(g, GREATEST), 0, ROWS, 3)[1] == 14943
+    rows = {p: profile(case(GREATEST, SHARE, p, g)).split()[0] for p in (16, 17, 26)}
+    assert rows == {16: "5", 17: "4", 26: "4"} and 400 * 1000 > 26 * 14943
     # The published reductions: first and last frames are the same, and a row value is the whole
     # number nearest to the published mean.
     assert profile(case(0, ROWS, 4, log_of(PROJ))).split("\n")[1:5] == [

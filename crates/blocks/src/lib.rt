@@ -1,8 +1,9 @@
-// Block totals: how many frames a block has, the sum of its values and that of their squares, frame by frame.
-// Totals of neighbours add, and a block's row value and error follow from its totals alone.
+// Block totals: how many frames a block has, the sum of its values and that of their squares, frame by frame, and the greatest of
+// them. Totals of neighbours add, and a block's row value and error follow from its kind and its totals alone.
+use model::GREATEST_KIND;
 ghost use mathlib.Core.Path.{_≡_};
-ghost use Prim.Native.Nat.{_≤_};
-ghost use Rattle.model.specs.Blocks.{totalsOf, add, empty, nearest};
+ghost use Prim.Native.Nat.{_≤_, max};
+ghost use Rattle.model.specs.Blocks.{totalsOf, add, empty, nearest, valueFor};
 ghost use Rattle.blocks.specs.Meaning.{totalsIn, errorFrom};
 ghost use Rattle.model.specs.Room.{Room, Block, mostFrames};
 ghost use Rattle.model.specs.Questions.{mostValue};
@@ -11,6 +12,14 @@ pub struct Totals {
     pub frames: u64,
     pub sum: u64,
     pub squares: u64,
+    pub greatest: u64,
+}
+
+// The greater of two numbers.
+fn greater(a: u64, b: u64) -> u64
+    ensures { λ r. ⌜ r ≡ max a b ⌝ }
+{
+    if a < b { b } else { a }
 }
 
 impl Totals {
@@ -19,6 +28,7 @@ impl Totals {
         frames: 0,
         sum: 0,
         squares: 0,
+        greatest: 0,
     };
 
     // The totals of a block with no segment, as a call: its promise says what the constant holds.
@@ -37,6 +47,7 @@ impl Totals {
             frames: frames,
             sum: frames * value,
             squares: frames * (value * value),
+            greatest: value,
         }
     }
 
@@ -49,11 +60,12 @@ impl Totals {
             frames: self.frames + other.frames,
             sum: self.sum + other.sum,
             squares: self.squares + other.squares,
+            greatest: greater(self.greatest, other.greatest),
         }
     }
 
     // The whole number nearest to the mean, the lower one at a half; 0 for no frames.
-    pub fn row_value(self) -> u64
+    fn nearest_mean(self) -> u64
         requires { ⌜ Room (totalsIn self) ⌝ }
         ensures { λ r. ⌜ r ≡ nearest (self .sum) (self .frames) ⌝ }
     {
@@ -63,12 +75,24 @@ impl Totals {
         (2 * self.sum + self.frames - 1) / (2 * self.frames)
     }
 
-    // The squared error of the row value.
-    pub fn error(self) -> u64
-        requires { ⌜ Block (totalsIn self) ⌝ }
-        ensures { λ r. ⌜ r ≡ errorFrom (totalsIn self) ⌝ }
+    // The row value: for kind 3 the greatest value, for every other kind the nearest mean.
+    pub fn row_value(self, kind: u8) -> u64
+        requires { ⌜ Room (totalsIn self) ⌝ }
+        ensures { λ r. ⌜ r ≡ valueFor kind (totalsIn self) ⌝ }
     {
-        let value = self.row_value();
+        if kind == GREATEST_KIND {
+            self.greatest
+        } else {
+            self.nearest_mean()
+        }
+    }
+
+    // The squared error of the row value.
+    pub fn error(self, kind: u8) -> u64
+        requires { ⌜ Block (totalsIn self) ⌝ }
+        ensures { λ r. ⌜ r ≡ errorFrom kind (totalsIn self) ⌝ }
+    {
+        let value = self.row_value(kind);
         self.squares + value * value * self.frames - 2 * (value * self.sum)
     }
 }

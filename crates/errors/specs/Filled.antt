@@ -7,11 +7,11 @@ use Rattle.model.specs.Blocks.{blockError}
 use Rattle.measures.specs.Held.{blockIn}
 
 -- the error of the block from j up to i
-abbrev pub costIn : List ℕ → List ℕ → List ℕ → ℕ → ℕ → ℕ
-costIn firsts lasts values j i = blockError (blockIn firsts lasts values j i)
+abbrev pub costIn : ℕ → List ℕ → List ℕ → List ℕ → ℕ → ℕ → ℕ
+costIn kind firsts lasts values j i = blockError kind (blockIn firsts lasts values j i)
 
 -- the places from `start` on hold the errors of the blocks up to i that begin with `low` or later; `before` stands everywhere else
-pub record EndingAt (firsts lasts values : List ℕ) (low i start : ℕ) (before after : List ℕ) : Type 0 where
+pub record EndingAt (kind : ℕ) (firsts lasts values : List ℕ) (low i start : ℕ) (before after : List ℕ) : Type 0 where
   pub size : length after ≡ length before
-  pub errors : (j : ℕ) → low ≤ j → j < i → getD after (start + j) 0 ≡ costIn firsts lasts values j i
+  pub errors : (j : ℕ) → low ≤ j → j < i → getD after (start + j) 0 ≡ costIn kind firsts lasts values j i
   pub others : (x : ℕ) → x < start → getD after x 0 ≡ getD before x 0

@@ -33,13 +33,13 @@ module _ (groups firsts lasts values : List ℕ) where
   totals-plain j i = totals-from j (i - j)
 
   -- a block's error among the segments
-  pub error-plain : (n j i : ℕ) → i ≤ n
-      → errorOf (spansIn groups firsts lasts values n) j i ≡ blockError (blockIn firsts lasts values j i)
+  pub error-plain : (kind n j i : ℕ) → i ≤ n
+      → errorOf kind (spansIn groups firsts lasts values n) j i ≡ blockError kind (blockIn firsts lasts values j i)
   unfolding errorOf block
-  error-plain n j i le =
-      ap blockError (listFrom-cong _ (spanIn groups firsts lasts values) j (i - j) (λ x lo hi. segment-at (spanIn groups firsts lasts values) n x (omega arith)))
-      ∙ sym (errorFrom-block (block (spanIn groups firsts lasts values) j i)) ∙ ap errorFrom (totals-plain j i)
-      ∙ errorFrom-block (blockIn firsts lasts values j i)
+  error-plain kind n j i le =
+      ap (blockError kind) (listFrom-cong _ (spanIn groups firsts lasts values) j (i - j) (λ x lo hi. segment-at (spanIn groups firsts lasts values) n x (omega arith)))
+      ∙ sym (errorFrom-block kind (block (spanIn groups firsts lasts values) j i)) ∙ ap (errorFrom kind) (totals-plain j i)
+      ∙ errorFrom-block kind (blockIn firsts lasts values j i)
 
   pub measurable : (n : ℕ) → Measured (spansIn groups firsts lasts values n) → Measurable firsts lasts values n
   unfolding spanIn

@@ -3,21 +3,25 @@
 -- tables give what the worked cases leave out, slots and records by their bytes among it. Assumes nothing.
 use Prim.Native.Nat.{ℕ, _-_}
 use mathlib.Core.Bool.{true}
-use mathlib.Core.List.{List, [], _∷_, _++_}
+use mathlib.Core.List.{List, [], _∷_, _++_, map}
 use mathlib.Core.Option.{Option, none, some, Option·getD}
 use mathlib.Core.Path.{_≡_, refl, _∙_}
+use native.Mathlib.Omega.{arith}
 use lib.Dec.{leb, eqb}
+use lib.IntN.{pos}
 use lib.ListN.{length, drop, replicate}
 use Rattle.model.specs.Common.{sumFrom, sumOf, listFrom, isSome, numberAt, bytesOf}
-use Rattle.model.specs.Spans.{Span, groupCount, frameCount, spanLength, meets, adjacent, nowhere}
-use Rattle.model.specs.Log.{recordLength, recordBytes, recordAt, recordCount, records, meeting, sum, aggregate, aggregated, value}
+use Rattle.model.specs.Spans.{Span, groupCount, frameCount, spanLength, meets, holds, adjacent, nowhere}
+use Rattle.model.specs.Log.{recordLength, recordBytes, recordAt, recordCount, records, meeting, sum, aggregate, greatestKind, aggregated, value}
 use Rattle.model.specs.Segments.{join, fuse, place, framesFrom, groupsFrom, segmentsOf, segments}
-use Rattle.model.specs.Blocks.{segmentAt, gap, lastGap, runsTo, block, empty, totalsOf, add, totals, nearest, rowValue, squared, errorWith, blockError, rowOf}
+use Rattle.model.specs.Blocks.{segmentAt, gap, lastGap, runsTo, block, empty, totalsOf, add, totals, nearest, valueFor, rowValue, squared, errorWith, blockError, rowOf}
 use Rattle.model.specs.Split.{untried, plus, below, exceeds, weigh, scan, single, cell, least, weighed, cutsOf, rowsOf, fewest, within, firstThat, mostRows, chosen, rowsTried, Reduced, errorOf, gapBelow, runs, leastOf, countFor, reducedTo, reduced}
-use Rattle.model.specs.Slot.{slotLength, rowBytes, rowsBytes, usedBytes, slotBytes, rowPlace, slotKind, slotCount, slotError, slotRow, slotRows}
+use Rattle.model.specs.Slot.{slotLength, rowBytes, rowsBytes, usedBytes, slotBytes, rowPlace, slotKind, slotCount, slotError, slotRow, slotRows, valueIn}
 use Rattle.model.specs.Questions.{ask, Outcome, refused, accepted, outcome, each, marked, askRoom, kindKnown, boundKnown, groupKnown, spanQuestions, recordQuestions, mostRecords, logQuestions, orderQuestions, enoughRows, queryQuestions}
 use Rattle.model.specs.Questions.{lent, writeQuestions, follows, inOrder, rowKnown, rowQuestions, zeros, tailZero, slotQuestions}
 use Rattle.model.specs.Calls.{Counts, countsOf, logSegments, answerOf, queryOutcome, querySlot, Header, readOutcome, readRows, writeOutcome, writtenBuffer}
+use Rattle.model.specs.Fitting.{FitsFor}
+use Rattle.model.specs.Demands.{whole}
 use Rattle.model.specs.declared.Bound.{Bound}
 use Rattle.model.specs.declared.Bound.the-variants.{Rows, Share}
 use Rattle.model.specs.declared.Query.{Query}
@@ -49,6 +53,17 @@ log-G = span 0 0 3 100 ∷ span 0 2 5 200 ∷ span 0 6 6 210 ∷ span 0 9 10 50 
 
 abbrev pub segments-G : List (Span ℕ)
 segments-G = span 0 0 1 100 ∷ span 0 2 3 300 ∷ span 0 4 5 200 ∷ span 0 6 6 210 ∷ span 0 9 10 50 ∷ span 1 0 0 7 ∷ []
+
+-- and the segments of G by kind 3
+abbrev pub segments-G3 : List (Span ℕ)
+segments-G3 = span 0 0 1 100 ∷ span 0 2 5 200 ∷ span 0 6 6 210 ∷ span 0 9 10 50 ∷ span 1 0 0 7 ∷ []
+
+-- with its best four rows, and with its best three
+abbrev pub four-G3 : List (Span ℕ)
+four-G3 = span 0 0 1 100 ∷ span 0 2 6 210 ∷ span 0 9 10 50 ∷ span 1 0 0 7 ∷ []
+
+abbrev pub runs-G3 : List (Span ℕ)
+runs-G3 = span 0 0 6 210 ∷ span 0 9 10 50 ∷ span 1 0 0 7 ∷ []
 
 -- the starred cases
 abbrev starred-cases : List Case
@@ -152,6 +167,32 @@ further-cases =
     (reduces 0 0 ([]))
     ∷ []
 
+-- cases of kind 3: a row holds its block's greatest value, and its error is taken from that
+abbrev greatest-cases : List Case
+greatest-cases =
+    -- G: the least error of three rows is 24,600, so that 17 thousandths are met by the error 400 of four rows, and 16 are not. Of
+    -- 14,943, the least error with nearest means, 27 thousandths would be needed.
+    caseOf 3 log-G (Rows 2 ∷ []) segments-G3
+    none
+    ∷
+    caseOf 3 log-G (Rows 3 ∷ Share 1000 ∷ []) segments-G3
+    (reduces 24600 8 runs-G3)
+    ∷
+    caseOf 3 log-G (Rows 4 ∷ Share 17 ∷ Share 26 ∷ []) segments-G3
+    (reduces 400 10 four-G3)
+    ∷
+    caseOf 3 log-G (Rows 64 ∷ Share 16 ∷ []) segments-G3
+    (reduces 0 11 segments-G3)
+    ∷
+    -- loads 0 and 1
+    caseOf 3 (span 0 0 0 0 ∷ span 0 1 1 1 ∷ []) (Rows 1 ∷ []) (span 0 0 0 0 ∷ span 0 1 1 1 ∷ [])
+    (reduces 1 0 (span 0 0 1 1 ∷ []))
+    ∷
+    -- an error above the sum of squares, which is 162
+    caseOf 3 (span 0 0 2 0 ∷ span 0 3 4 9 ∷ []) (Rows 1 ∷ []) (span 0 0 2 0 ∷ span 0 3 4 9 ∷ [])
+    (reduces 243 0 (span 0 0 4 9 ∷ []))
+    ∷ []
+
 -- ---- what a row of the table says
 
 abbrev pub bytes : List (Span ℕ) → List ℕ
@@ -169,7 +210,7 @@ says (some a) = accepted (countsOf a)
 abbrev Answers : ℕ → List ℕ → Option Reduced → List Bound → Type 0
 Answers kind log answer [] = Unit {0}
 Answers kind log answer (b ∷ bs) =
-    (queryOutcome (query kind b) log 768 ≡ says answer) × (reduced b (logSegments kind log) ≡ answer)
+    (queryOutcome (query kind b) log 768 ≡ says answer) × (reduced kind b (logSegments kind log) ≡ answer)
     × Answers kind log answer bs
 
 abbrev Holds : Case → Type 0
@@ -184,13 +225,13 @@ All P (c ∷ cs) = P c × All P cs
 
 outcomeOn : Query → List ℕ → List (Span ℕ) → Outcome Counts
 outcomeOn q log segs =
-    outcome (askRoom slotLength 768 ∷ (orderQuestions q log ++ (ask 10 0 (isSome (countFor (q .bound) segs)) ∷ [])))
-    (countsOf (Option·getD (reduced (q .bound) segs) (record { rows = []; error = 0; weighed = 0 })))
+    outcome (askRoom slotLength 768 ∷ (orderQuestions q log ++ (ask 10 0 (isSome (countFor (q .kind) (q .bound) segs)) ∷ [])))
+    (countsOf (Option·getD (reduced (q .kind) (q .bound) segs) (record { rows = []; error = 0; weighed = 0 })))
 
 abbrev ShortAnswers : ℕ → List ℕ → List (Span ℕ) → Option Reduced → List Bound → Type 0
 ShortAnswers kind log segs answer [] = Unit {0}
 ShortAnswers kind log segs answer (b ∷ bs) =
-    (outcomeOn (query kind b) log segs ≡ says answer) × (reduced b segs ≡ answer) × ShortAnswers kind log segs answer bs
+    (outcomeOn (query kind b) log segs ≡ says answer) × (reduced kind b segs ≡ answer) × ShortAnswers kind log segs answer bs
 
 abbrev Short : Case → Type 0
 Short c =
@@ -215,23 +256,24 @@ all-long : (cs : List Case) → All Short cs → All Holds cs
 all-long [] h = tt
 all-long (c ∷ cs) (h, hs) = (long c h, all-long cs hs)
 
-shown : (All Short starred-cases) × (All Short further-cases)
-unfolding horizon sumFrom sumOf listFrom isSome numberAt bytesOf groupCount frameCount spanLength meets adjacent nowhere recordLength recordBytes recordAt recordCount records meeting sum aggregate aggregated value join fuse place framesFrom groupsFrom segmentsOf segmentAt gap lastGap runsTo block empty totalsOf add totals nearest rowValue squared errorWith blockError rowOf untried plus below exceeds weigh scan single cell least weighed cutsOf rowsOf fewest within firstThat mostRows chosen rowsTried errorOf gapBelow runs leastOf countFor reducedTo reduced slotLength ask outcome each marked askRoom kindKnown boundKnown groupKnown spanQuestions recordQuestions mostRecords logQuestions orderQuestions countsOf outcomeOn
+shown : (All Short starred-cases) × (All Short further-cases) × (All Short greatest-cases)
+unfolding horizon sumFrom sumOf listFrom isSome numberAt bytesOf groupCount frameCount spanLength meets adjacent nowhere recordLength recordBytes recordAt recordCount records meeting sum aggregate aggregated value join fuse place framesFrom groupsFrom segmentsOf segmentAt gap lastGap runsTo block empty totalsOf add totals nearest valueFor rowValue squared errorWith blockError rowOf untried plus below exceeds weigh scan single cell least weighed cutsOf rowsOf fewest within firstThat mostRows chosen rowsTried errorOf gapBelow runs leastOf countFor reducedTo reduced slotLength ask outcome each marked askRoom kindKnown boundKnown groupKnown spanQuestions recordQuestions mostRecords logQuestions orderQuestions countsOf outcomeOn
 shown = (
   ((refl, refl, (refl, refl, tt)), ((refl, refl, (refl, refl, tt)), ((refl, refl, (refl, refl, tt)), ((refl, refl, (refl, refl, tt)), ((refl, refl, (refl, refl, tt)), ((refl, refl, (refl, refl, (refl, refl, tt))), ((refl, refl, (refl, refl, tt)), ((refl, refl, (refl, refl, tt)), ((refl, refl, (refl, refl, tt)), ((refl, refl, (refl, refl, tt)), ((refl, refl, (refl, refl, tt)), ((refl, refl, (refl, refl, tt)), tt)))))))))))),
   ((refl, refl, (refl, refl, tt)), ((refl, refl, (refl, refl, tt)), ((refl, refl, (refl, refl, tt)), ((refl, refl, (refl, refl, tt)), ((refl, refl, (refl, refl, tt)), ((refl, refl, (refl, refl, tt)), ((refl, refl, (refl, refl, tt)), ((refl, refl, (refl, refl, tt)), ((refl, refl, (refl, refl, tt)), ((refl, refl, (refl, refl, (refl, refl, tt))), tt)))))))))),
+  ((refl, refl, (refl, refl, tt)), ((refl, refl, (refl, refl, (refl, refl, tt))), ((refl, refl, (refl, refl, (refl, refl, (refl, refl, tt)))), ((refl, refl, (refl, refl, (refl, refl, tt))), ((refl, refl, (refl, refl, tt)), ((refl, refl, (refl, refl, tt)), tt)))))),
 )
 
--- Every row of the two tables holds.
-pub worked-cases : All Holds starred-cases × All Holds further-cases
-worked-cases = (all-long starred-cases (shown .0), all-long further-cases (shown .1))
+-- Every row of the three tables holds.
+pub worked-cases : All Holds starred-cases × All Holds further-cases × All Holds greatest-cases
+worked-cases = (all-long starred-cases (shown .0), all-long further-cases (shown .1), all-long greatest-cases (shown .2))
 
 -- ---- the last frame: 65,535 has a value, 65,536 has none, and a span to the last frame has its whole length
 
 pub last-frame : (value 0 (span 0 65535 65535 5 ∷ []) 0 65535 ≡ some 5)
     × (value 0 (span 0 65535 65536 5 ∷ []) 0 65536 ≡ none)
-    × (reduced (Rows 1) (span 0 65534 65534 0 ∷ span 0 65535 65535 10 ∷ []) ≡ reduces 50 0 (span 0 65534 65535 5 ∷ []))
-unfolding horizon sumFrom sumOf listFrom isSome numberAt bytesOf groupCount frameCount spanLength meets adjacent nowhere recordLength recordBytes recordAt recordCount records meeting sum aggregate aggregated value join fuse place framesFrom groupsFrom segmentsOf segmentAt gap lastGap runsTo block empty totalsOf add totals nearest rowValue squared errorWith blockError rowOf untried plus below exceeds weigh scan single cell least weighed cutsOf rowsOf fewest within firstThat mostRows chosen rowsTried errorOf gapBelow runs leastOf countFor reducedTo reduced slotLength ask outcome each marked askRoom kindKnown boundKnown groupKnown spanQuestions recordQuestions mostRecords logQuestions orderQuestions countsOf outcomeOn
+    × (reduced 0 (Rows 1) (span 0 65534 65534 0 ∷ span 0 65535 65535 10 ∷ []) ≡ reduces 50 0 (span 0 65534 65535 5 ∷ []))
+unfolding horizon sumFrom sumOf listFrom isSome numberAt bytesOf groupCount frameCount spanLength meets adjacent nowhere recordLength recordBytes recordAt recordCount records meeting sum aggregate aggregated value join fuse place framesFrom groupsFrom segmentsOf segmentAt gap lastGap runsTo block empty totalsOf add totals nearest valueFor rowValue squared errorWith blockError rowOf untried plus below exceeds weigh scan single cell least weighed cutsOf rowsOf fewest within firstThat mostRows chosen rowsTried errorOf gapBelow runs leastOf countFor reducedTo reduced slotLength ask outcome each marked askRoom kindKnown boundKnown groupKnown spanQuestions recordQuestions mostRecords logQuestions orderQuestions countsOf outcomeOn
 last-frame = (refl, refl, refl)
 
 -- ---- slots by their bytes
@@ -275,6 +317,12 @@ slot-cases =
     (0x50 ∷ 0x48 ∷ 4 ∷ 1 ∷ 1 ∷ 2 ∷ 3 ∷ 4 ∷ 5 ∷ 6 ∷ 7 ∷ 8
     ∷ 0x50 ∷ 0x52 ∷ 7 ∷ 1 ∷ 2 ∷ 3 ∷ 4 ∷ 0 ∷ 0xF4 ∷ 1 ∷ 0 ∷ [])
     (header 4 0x0807060504030201 1) (span 7 0x0201 0x0403 0x01F400 ∷ [])
+    ∷
+    -- kind 3, loads 0 and 1 in a row that holds the nearest mean, as it was written before rows of kind 3 held the greatest value
+    slotCase 3 1 (span 0 0 1 0 ∷ [])
+    (0x50 ∷ 0x48 ∷ 3 ∷ 1 ∷ 1 ∷ 0 ∷ 0 ∷ 0 ∷ 0 ∷ 0 ∷ 0 ∷ 0
+    ∷ 0x50 ∷ 0x52 ∷ 0 ∷ 0 ∷ 0 ∷ 1 ∷ 0 ∷ 0 ∷ 0 ∷ 0 ∷ 0 ∷ [])
+    (header 3 1 1) (span 0 0 1 0 ∷ [])
     ∷
     -- kind 5: question 12
     slotCase 5 0 [] (0x50 ∷ 0x48 ∷ 5 ∷ []) (refused 12 0) []
@@ -332,7 +380,7 @@ RecordHolds c =
 pub byte-cases : All SlotHolds slot-cases × All RecordHolds record-cases
 unfolding listFrom numberAt bytesOf slotLength rowBytes rowsBytes usedBytes slotBytes rowPlace slotKind slotCount slotError slotRow slotRows ask outcome lent each marked askRoom kindKnown groupKnown spanQuestions mostRows follows inOrder rowKnown rowQuestions zeros tailZero slotQuestions readOutcome readRows recordLength recordBytes writeQuestions writeOutcome writtenBuffer
 byte-cases = (
-  ((refl, refl, refl), ((refl, refl, refl), ((refl, refl, refl), ((refl, refl, refl), tt)))),
+  ((refl, refl, refl), ((refl, refl, refl), ((refl, refl, refl), ((refl, refl, refl), ((refl, refl, refl), tt))))),
   ((refl, refl), ((refl, refl), ((refl, refl), ((refl, refl), ((refl, refl), ((refl, refl), tt)))))),
 )
 
@@ -340,9 +388,9 @@ byte-cases = (
 
 slotOn : Query → List ℕ → List (Span ℕ) → List ℕ → List ℕ
 slotOn q log segs slot =
-    let answer = Option·getD (reduced (q .bound) segs) (record { rows = []; error = 0; weighed = 0 }) in
+    let answer = Option·getD (reduced (q .kind) (q .bound) segs) (record { rows = []; error = 0; weighed = 0 }) in
     lent
-    (askRoom slotLength (length slot) ∷ (orderQuestions q log ++ (ask 10 0 (isSome (countFor (q .bound) segs)) ∷ [])))
+    (askRoom slotLength (length slot) ∷ (orderQuestions q log ++ (ask 10 0 (isSome (countFor (q .kind) (q .bound) segs)) ∷ [])))
     (slotBytes (q .kind) (answer .error) (answer .rows) ++ drop slotLength slot)
     slot
 
@@ -352,9 +400,16 @@ unfolding querySlot queryQuestions enoughRows answerOf logSegments slotOn
 slot-on q log segs slot e = rw e
 
 written-G : slotOn (query 0 (Rows 4)) (bytes log-G) segments-G (replicate 770 9) ≡ wholeSlot bytes-G ++ (9 ∷ 9 ∷ [])
-unfolding sumFrom sumOf listFrom isSome numberAt bytesOf groupCount frameCount spanLength adjacent nowhere recordLength recordBytes recordAt recordCount records segmentAt gap lastGap runsTo block empty totalsOf add totals nearest rowValue squared errorWith blockError rowOf untried plus below exceeds weigh scan single cell least weighed cutsOf rowsOf fewest within firstThat mostRows chosen rowsTried errorOf gapBelow runs leastOf countFor reducedTo reduced slotLength ask each marked askRoom kindKnown boundKnown groupKnown spanQuestions recordQuestions mostRecords logQuestions orderQuestions lent rowBytes rowsBytes usedBytes slotBytes slotOn
+unfolding sumFrom sumOf listFrom isSome numberAt bytesOf groupCount frameCount spanLength adjacent nowhere recordLength recordBytes recordAt recordCount records segmentAt gap lastGap runsTo block empty totalsOf add totals nearest valueFor rowValue squared errorWith blockError rowOf untried plus below exceeds weigh scan single cell least weighed cutsOf rowsOf fewest within firstThat mostRows chosen rowsTried errorOf gapBelow runs leastOf countFor reducedTo reduced slotLength ask each marked askRoom kindKnown boundKnown groupKnown spanQuestions recordQuestions mostRecords logQuestions orderQuestions lent rowBytes rowsBytes usedBytes slotBytes slotOn
 written-G = refl
 
 -- what a query of G with c = 4 leaves in a buffer of 770 bytes: the slot, and the last two bytes as they were
 pub slot-of-G : querySlot (query 0 (Rows 4)) (bytes log-G) (replicate 770 9) ≡ wholeSlot bytes-G ++ (9 ∷ 9 ∷ [])
 slot-of-G = slot-on (query 0 (Rows 4)) (bytes log-G) segments-G (replicate 770 9) (worked-cases .0 .0 .0) ∙ written-G
+
+-- ---- a list that does not fit for kind 3
+
+-- loads 0 and 1 in one row that holds 0, the nearest mean: one below the second load
+pub one-below : FitsFor greatestKind (value greatestKind (span 0 0 0 0 ∷ span 0 1 1 1 ∷ [])) (map whole (span 0 0 1 0 ∷ [])) → ⊥
+unfolding groupCount frameCount meets holds meeting aggregated aggregate value valueIn whole
+one-below f = omega (arith, f .nowhereBelow refl 0 1 1 (pos 0) refl refl)

@@ -98,7 +98,7 @@ queryCase (query-answer.Refused r) = refused (r .question) (r .index)
 -- the paper's answer to a query, of 0 rows where there is none
 unfoldable pub answerOf : Query → List ℕ → Reduced
 answerOf q log =
-    Option·getD (reduced (q .bound) (logSegments (q .kind) log)) (record { rows = []; error = 0; weighed = 0 })
+    Option·getD (reduced (q .kind) (q .bound) (logSegments (q .kind) log)) (record { rows = []; error = 0; weighed = 0 })
 
 unfoldable pub countsOf : Reduced → Counts
 countsOf r = record { rows = length (r .rows); error = r .error; weighed = r .weighed }

@@ -10,16 +10,17 @@ use lib.IntN.{ℤ, pos}
 use lib.ListN.{length, getD, take}
 use Rattle.model.specs.Common.{sumOf}
 use Rattle.model.specs.Spans.{Span, spanLength, adjacent}
-use Rattle.model.specs.Log.{records, meeting, sum, value}
-use Rattle.model.specs.Blocks.{segmentAt, gap}
+use Rattle.model.specs.Log.{records, meeting, sum, greatestKind, value}
+use Rattle.model.specs.Blocks.{segmentAt, gap, totals, rowValue}
 use Rattle.model.specs.Split.{Reduced, errorOf, gapBelow, runs, rowsOf, mostRows}
 use Rattle.model.specs.Reductions.{IsReduction, Merges, BestWithin, FewestWithin, reductionError}
-use Rattle.model.specs.Slot.{slotLength, slotBytes}
+use Rattle.model.specs.Slot.{slotLength, slotBytes, valueIn}
 use Rattle.model.specs.Questions.{Question, Outcome, refused, accepted, kindKnown, boundKnown, rowKnown, follows}
 use Rattle.model.specs.Questions.{logQuestions, orderQuestions, writeQuestions, segmentsQuestions, queryQuestions, slotQuestions, lookupQuestions, mostSegments}
 use Rattle.model.specs.Calls.{Counts, Header, writeOutcome, writtenBuffer, segmentsOutcome, filledList, logSegments, queryOutcome, querySlot, answerOf, countsOf, readOutcome, readRows, readListQuestions, readListOutcome, readList, stepOutcome, stepNext, lookupOutcome}
 use Rattle.model.specs.Calls.{cutsWeighed, queryWeighed, boundOf, byLetterQuestions, letterOutcome, letterSlot, letterWeighed}
-use Rattle.model.specs.Fitting.{Fits, hits, due, squaredError, LeastOfFewest, WithinShare, Exceeds}
+use Rattle.model.specs.Guarantee.{Choices, LeastOfFewest, BestRows, NoRows}
+use Rattle.model.specs.Fitting.{hits, due, FitsFor, rowLists}
 use Rattle.model.specs.declared.Bound.{Bound}
 use Rattle.model.specs.declared.Bound.the-variants.{Rows, Share}
 use Rattle.model.specs.declared.Query.{Query}
@@ -94,14 +95,14 @@ pub record MeanInHundredths (loads : List ℕ) (v : ℕ) : Type 0 where
   pub lessThanOneBelow : 100 * sum loads < suc v * length loads
 
 -- the rows and error of a reduction with these cuts
-pub record Cut (segs : List (Span ℕ)) (a : Reduced) (cuts : List ℕ) : Type 0 where
-  pub rows : a .rows ≡ rowsOf (segmentAt segs) (length segs) cuts
-  pub error : a .error ≡ reductionError (errorOf segs) (length segs) cuts
+pub record Cut (kind : ℕ) (segs : List (Span ℕ)) (a : Reduced) (cuts : List ℕ) : Type 0 where
+  pub rows : a .rows ≡ rowsOf kind (segmentAt segs) (length segs) cuts
+  pub error : a .error ≡ reductionError (errorOf kind segs) (length segs) cuts
 
 -- the reduction that a bound asks for, of these segments
-abbrev pub Reduces : Bound → List (Span ℕ) → List ℕ → Type 0
-Reduces (Rows c) segs cuts = BestWithin (errorOf segs) (gapBelow segs) (length segs) c cuts
-Reduces (Share p) segs cuts = FewestWithin (errorOf segs) (gapBelow segs) (length segs) p (runs segs) cuts
+abbrev pub Reduces : ℕ → Bound → List (Span ℕ) → List ℕ → Type 0
+Reduces kind (Rows c) segs cuts = BestWithin (errorOf kind segs) (gapBelow segs) (length segs) c cuts
+Reduces kind (Share p) segs cuts = FewestWithin (errorOf kind segs) (gapBelow segs) (length segs) p (runs segs) cuts
 
 -- what a slot can hold
 pub record Storable (kind error : ℕ) (rows : List (Span ℕ)) : Type 0 where
@@ -131,9 +132,13 @@ pub record Demand2 : Type 0 where
   pub merging : (kind : ℕ) (log cuts : List ℕ)
       → IsReduction (gapBelow (logSegments kind log)) (length (logSegments kind log)) cuts
       ↔ Merges (gap (segmentAt (logSegments kind log))) (length (logSegments kind log)) cuts
+  -- a block's row value lies between the least and the greatest value in it, and for kind 3 it is the greatest
+  pub between : (kind lo hi : ℕ) (b : List (Span ℕ)) → 0 < (totals b) .frames
+      → ((s : Span ℕ) → List·Memᴰ s b → (lo ≤ s .value) × (s .value ≤ hi)) → (lo ≤ rowValue kind b) × (rowValue kind b ≤ hi)
+  pub greatest : (b : List (Span ℕ)) (s : Span ℕ) → List·Memᴰ s b → s .value ≤ rowValue greatestKind b
   pub reduction : (q : Query) (log : List ℕ) (room : ℕ) (counts : Counts) → queryOutcome q log room ≡ accepted counts
-      → (cuts : List ℕ) × Cut (logSegments (q .kind) log) (answerOf q log) cuts
-      × Reduces (q .bound) (logSegments (q .kind) log) cuts × (countsOf (answerOf q log) ≡ counts)
+      → (cuts : List ℕ) × Cut (q .kind) (logSegments (q .kind) log) (answerOf q log) cuts
+      × Reduces (q .kind) (q .bound) (logSegments (q .kind) log) cuts × (countsOf (answerOf q log) ≡ counts)
   -- the empty log gives 0 rows and error 0, for every kind and every bound that passes question 3
   pub emptyLog : (q : Query) (room : ℕ) → slotLength ≤ room → kindKnown (q .kind) ≡ true → boundKnown (q .bound) ≡ true
       → (answerOf q [] ≡ record { rows = []; error = 0; weighed = 0 })
@@ -142,6 +147,12 @@ pub record Demand2 : Type 0 where
       → Reads (querySlot q log slot) (q .kind) ((answerOf q log) .error) ((answerOf q log) .rows)
   pub roundTrip : (kind error : ℕ) (rows : List (Span ℕ)) (rest : List ℕ) → Storable kind error rows
       → Reads (slotBytes kind error rows ++ rest) kind error rows
+  -- a slot is read whichever kind's rule its rows were made by: one of kind 3 whose rows hold nearest whole numbers, as they were
+  -- written before, still reads
+  pub stillRead : (rule kind : ℕ) (log cuts rest : List ℕ) (a : Reduced) → kindKnown kind ≡ true
+      → AllPass (logQuestions log) → Cut rule (logSegments kind log) a cuts
+      → IsReduction (gapBelow (logSegments kind log)) (length (logSegments kind log)) cuts → length cuts ≤ mostRows
+      → Reads (slotBytes kind (a .error) (a .rows) ++ rest) kind (a .error) (a .rows)
   pub layout : (slot : List ℕ) (header : Header) → Bytes slot → readOutcome slot ≡ accepted header
       → take slotLength slot ≡ slotBytes (header .kind) (header .error) (readRows slot)
 
@@ -151,31 +162,9 @@ pub record Demand2 : Type 0 where
 unfoldable pub whole : Span ℕ → Span ℤ
 whole r = record { group = r .group; first = r .first; last = r .last; value = pos (r .value) }
 
--- these rows are best among the fitting lists of at most c rows
-pub record BestOfLimit (val : ℕ → ℕ → Option ℕ) (c error : ℕ) (rows : List (Span ℤ)) : Type 0 where
-  pub fits : Fits val rows
-  pub count : length rows ≤ c
-  pub squares : squaredError val rows ≡ error
-  pub least : (other : List (Span ℤ)) → Fits val other → length other ≤ c → error ≤ squaredError val other
-  pub fewest : (other : List (Span ℤ)) → Fits val other → length other ≤ c → squaredError val other ≡ error
-      → length rows ≤ length other
-
--- these rows are within the share, best among the fitting lists of as many rows, and fewer do not do
-pub record BestOfShare (val : ℕ → ℕ → Option ℕ) (p error : ℕ) (rows : List (Span ℤ)) : Type 0 where
-  pub fits : Fits val rows
-  pub squares : squaredError val rows ≡ error
-  pub met : WithinShare val p rows
-  pub least : (other : List (Span ℤ)) → Fits val other → length other ≡ length rows → error ≤ squaredError val other
-  pub fewest : (other : List (Span ℤ)) → Fits val other → length other < length rows → Exceeds val p other
-
-abbrev pub BestRows : Bound → (ℕ → ℕ → Option ℕ) → ℕ → List (Span ℤ) → Type 0
-BestRows (Rows c) val error rows = BestOfLimit val c error rows
-BestRows (Share p) val error rows = BestOfShare val p error rows
-
--- no list of rows does
-abbrev pub NoRows : Bound → (ℕ → ℕ → Option ℕ) → Type 0
-NoRows (Rows c) val = (rows : List (Span ℤ)) → Fits val rows → length rows ≤ c → ⊥
-NoRows (Share p) val = (rows : List (Span ℤ)) → Fits val rows → length rows ≤ mostRows → Exceeds val p rows
+-- the lists of rows that fit a log, by the values of a kind
+abbrev pub listsFor : ℕ → List ℕ → Choices (List (Span ℤ))
+listsFor kind log = rowLists kind (value kind (records log))
 
 -- the slot is read to rows and an error that are the paper's answer to the query, and best
 pub record BestSlot (q : Query) (log slot : List ℕ) : Type 0 where
@@ -184,33 +173,41 @@ pub record BestSlot (q : Query) (log slot : List ℕ) : Type 0 where
   pub reads : Reads slot (q .kind) error rows
   pub answerError : error ≡ (answerOf q log) .error
   pub answerRows : rows ≡ (answerOf q log) .rows
-  pub best : BestRows (q .bound) (value (q .kind) (records log)) error (map whole rows)
+  pub best : BestRows (listsFor (q .kind) log) (q .bound) error (map whole rows)
+
+-- rows of kind 3 never fall short of a log: for every covered frame they have a number, which is at least the frame's value
+abbrev pub NeverShort : Query → List ℕ → List (Span ℕ) → Type 0
+NeverShort q log rows =
+    q .kind ≡ greatestKind → (g f v : ℕ) → value (q .kind) (records log) g f ≡ some v
+    → (r : ℕ) × (valueIn rows g f ≡ some r) × (v ≤ r)
 
 -- 'too few rows' is said exactly where no rows do
 abbrev pub SaysTooFew : Query → List ℕ → Outcome Counts → Type 0
-SaysTooFew q log says = (says ≡ refused 10 0) ↔ NoRows (q .bound) (value (q .kind) (records log))
+SaysTooFew q log says = (says ≡ refused 10 0) ↔ NoRows (listsFor (q .kind) log) (q .bound)
 
 pub record Demand3 : Type 0 where
   pub best : (q : Query) (log slot : List ℕ) (counts : Counts) → queryOutcome q log (length slot) ≡ accepted counts
       → BestSlot q log (querySlot q log slot)
+  pub neverShort : (q : Query) (log slot : List ℕ) (counts : Counts) → queryOutcome q log (length slot) ≡ accepted counts
+      → NeverShort q log (readRows (querySlot q log slot))
   pub tooFew : (q : Query) (log slot : List ℕ) → slotLength ≤ length slot → AllPass (orderQuestions q log)
       → SaysTooFew q log (queryOutcome q log (length slot))
   -- with no covered frame only the list of 0 rows fits
-  pub uncovered : (val : ℕ → ℕ → Option ℕ) → ((g f : ℕ) → val g f ≡ none)
-      → (rows : List (Span ℤ)) → Fits val rows ↔ (rows ≡ [])
+  pub uncovered : (kind : ℕ) (val : ℕ → ℕ → Option ℕ) → ((g f : ℕ) → val g f ≡ none)
+      → (rows : List (Span ℤ)) → FitsFor kind val rows ↔ (rows ≡ [])
   -- there is exactly one least squared error among the fitting lists with the fewest rows, so that every list is within the
   -- share or exceeds it
   pub oneLeast : (kind : ℕ) (log : List ℕ)
-      → (L : ℕ) × LeastOfFewest (value kind (records log)) L
-      × ((M : ℕ) → LeastOfFewest (value kind (records log)) M → M ≡ L)
+      → (L : ℕ) × LeastOfFewest (listsFor kind log) L × ((M : ℕ) → LeastOfFewest (listsFor kind log) M → M ≡ L)
 
 -- What a call promises beyond the equations for its answer and its slot.
 
--- a query that answers so and leaves this slot: its number of cuts weighed; best rows where it is accepted; 'too few rows'
--- where no rows do, and there alone
+-- a query that answers so and leaves this slot: its number of cuts weighed; best rows where it is accepted, and for kind 3 none
+-- that falls short; 'too few rows' where no rows do, and there alone
 pub record QueryPromise (q : Query) (log slot : List ℕ) (says : Outcome Counts) (after : List ℕ) : Type 0 where
   pub weighed : cutsWeighed says ≡ queryWeighed q log (length slot)
   pub best : (counts : Counts) → says ≡ accepted counts → BestSlot q log after
+  pub neverShort : (counts : Counts) → says ≡ accepted counts → NeverShort q log (readRows after)
   pub tooFew : slotLength ≤ length slot → AllPass (orderQuestions q log) → SaysTooFew q log says
 
 -- the same of a query by letter, for the bound that the letter names

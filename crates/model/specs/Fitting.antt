@@ -1,16 +1,18 @@
 -- The words of demand 3. A list of rows, in any order, each with a group, a first and a last frame and any whole number,
 -- is judged against the values of frames, and nothing here knows of segments or blocks.
-use Prim.Native.Nat.{ℕ, suc, _*_, _≤_}
+use Prim.Native.Nat.{ℕ, suc, _≤_}
 use mathlib.Core.Bool.{cond}
 use mathlib.Core.List.{List, [], _∷_, List·Memᴰ}
 use mathlib.Core.Option.{Option, none, some}
 use mathlib.Core.Path.{_≡_}
-use lib.IntN.{ℤ}
+use lib.IntN.{ℤ, pos, negsuc}
 use lib.ListN.{length}
 use Rattle.model.specs.Common.{sumFrom}
 use Rattle.model.specs.Spans.{Span, groupCount, frameCount, holds}
+use Rattle.model.specs.Log.{greatestKind}
 use Rattle.model.specs.Blocks.{squared}
 use Rattle.model.specs.Slot.{valueIn}
+use Rattle.model.specs.Guarantee.{Choices}
 
 -- how many rows contain frame f of group g
 unfoldable pub hits : {A : Type 0} → List (Span A) → ℕ → ℕ → ℕ
@@ -43,19 +45,21 @@ unfoldable pub squaredError : (ℕ → ℕ → Option ℕ) → List (Span ℤ) �
 squaredError val rows =
     overFrames groupCount frameCount (λ g f. frameCost squared (val g f) (valueIn rows g f))
 
--- L is the least squared error among the fitting lists with the fewest rows that any has
-pub record LeastOfFewest (val : ℕ → ℕ → Option ℕ) (L : ℕ) : Type 0 where
-  pub rows : List (Span ℤ)
-  pub fits : Fits val rows
-  pub error : squaredError val rows ≡ L
-  pub fewest : (other : List (Span ℤ)) → Fits val other → length rows ≤ length other
-  pub least : (other : List (Span ℤ)) → Fits val other → length other ≡ length rows → L ≤ squaredError val other
+-- a value is at most a whole number
+abbrev pub AtMost : ℕ → ℤ → Type 0
+AtMost v (pos m) = v ≤ m
+AtMost v (negsuc m) = ⊥
 
--- the list is within share p, in thousandths
-pub record WithinShare (val : ℕ → ℕ → Option ℕ) (p : ℕ) (rows : List (Span ℤ)) : Type 0 where
-  pub of : ℕ
-  pub isLeast : LeastOfFewest val of
-  pub met : squaredError val rows * 1000 ≤ p * of
+-- the rows are nowhere below a covered value: no covered frame's value is above the number of the row that contains it
+abbrev pub NowhereBelow : (ℕ → ℕ → Option ℕ) → List (Span ℤ) → Type 0
+NowhereBelow val rows =
+    (g f v : ℕ) (z : ℤ) → val g f ≡ some v → valueIn rows g f ≡ some z → AtMost v z
 
-abbrev pub Exceeds : (ℕ → ℕ → Option ℕ) → ℕ → List (Span ℤ) → Type 0
-Exceeds val p rows = WithinShare val p rows → ⊥
+-- a list fits for a kind; for kind 3 only if its rows are also nowhere below a covered value
+pub record FitsFor (kind : ℕ) (val : ℕ → ℕ → Option ℕ) (rows : List (Span ℤ)) : Type 0 where
+  pub covers : Fits val rows
+  pub nowhereBelow : kind ≡ greatestKind → NowhereBelow val rows
+
+-- the lists of rows among which a query of this kind has the best
+abbrev pub rowLists : ℕ → (ℕ → ℕ → Option ℕ) → Choices (List (Span ℤ))
+rowLists kind val = record { fits = FitsFor kind val; size = length; error = squaredError val }

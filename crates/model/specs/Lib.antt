@@ -11,5 +11,6 @@ pub mod Questions
 pub mod Calls
 pub mod Room
 pub mod Arrays
+pub mod Guarantee
 pub mod Fitting
 pub mod Demands

@@ -50,6 +50,10 @@ aggregate (suc (suc (suc zero))) x xs = foldr max x xs
 aggregate (suc (suc (suc (suc zero)))) x xs = 100 * (x + sum xs) / suc (length xs)
 aggregate (suc (suc (suc (suc (suc k))))) x xs = 0
 
+-- the kind of the greatest load
+abbrev pub greatestKind : ℕ
+greatestKind = 3
+
 -- no load, no value
 unfoldable pub aggregated : ℕ → List ℕ → Option ℕ
 aggregated kind [] = none

@@ -88,7 +88,7 @@ orderQuestions q log = ask 2 0 (kindKnown (q .kind)) ∷ ask 3 0 (boundKnown (q 
 
 -- 10: do the segments of the log answer the bound?
 unfoldable pub enoughRows : Query → List ℕ → Bool
-enoughRows q log = isSome (countFor (q .bound) (segments (q .kind) (records log)))
+enoughRows q log = isSome (countFor (q .kind) (q .bound) (segments (q .kind) (records log)))
 
 unfoldable pub queryQuestions : Query → List ℕ → ℕ → List Question
 queryQuestions q log room =

@@ -21,6 +21,7 @@ pub record Room (t : Totals) : Type 0 where
   pub frames-le : t .frames ≤ mostFrames
   pub sum-le : t .sum ≤ mostValue * t .frames
   pub squares-le : t .squares ≤ mostValue * mostValue * t .frames
+  pub greatest-le : t .greatest ≤ mostValue
 
 -- totals of some block: no row value has a negative error
 pub record Block (t : Totals) : Type 0 where

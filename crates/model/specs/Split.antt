@@ -82,9 +82,9 @@ cutsOf err low zero i = []
 cutsOf err low (suc k) i = (cell err low (suc k) i) .cut ∷ cutsOf err low k ((cell err low (suc k) i) .cut)
 
 -- the rows of these blocks, the first row first
-unfoldable pub rowsOf : (ℕ → Span ℕ) → ℕ → List ℕ → List (Span ℕ)
-rowsOf seg i [] = []
-rowsOf seg i (j ∷ js) = rowsOf seg j js ++ (rowOf seg j i ∷ [])
+unfoldable pub rowsOf : ℕ → (ℕ → Span ℕ) → ℕ → List ℕ → List (Span ℕ)
+rowsOf kind seg i [] = []
+rowsOf kind seg i (j ∷ js) = rowsOf kind seg j js ++ (rowOf kind seg j i ∷ [])
 
 -- the fewest of 0 to K rows that have the least error
 unfoldable pub fewest : (ℕ → Option ℕ) → ℕ → ℕ
@@ -125,8 +125,8 @@ pub record Reduced : Type 0 where
   pub error : ℕ
   pub weighed : ℕ
 
-unfoldable pub errorOf : List (Span ℕ) → ℕ → ℕ → ℕ
-errorOf segs j i = blockError (block (segmentAt segs) j i)
+unfoldable pub errorOf : ℕ → List (Span ℕ) → ℕ → ℕ → ℕ
+errorOf kind segs j i = blockError kind (block (segmentAt segs) j i)
 
 unfoldable pub gapBelow : List (Span ℕ) → ℕ → ℕ
 gapBelow segs i = lastGap (segmentAt segs) i
@@ -135,22 +135,22 @@ unfoldable pub runs : List (Span ℕ) → ℕ
 runs segs = runsTo (segmentAt segs) (length segs)
 
 -- the least error of all segments in exactly k rows
-unfoldable pub leastOf : List (Span ℕ) → ℕ → Option ℕ
-leastOf segs k = least (errorOf segs) (gapBelow segs) k (length segs)
+unfoldable pub leastOf : ℕ → List (Span ℕ) → ℕ → Option ℕ
+leastOf kind segs k = least (errorOf kind segs) (gapBelow segs) k (length segs)
 
 -- the number of rows that answers the bound
-unfoldable pub countFor : Bound → List (Span ℕ) → Option ℕ
-countFor bound segs = chosen bound (leastOf segs) (length segs) (runs segs)
+unfoldable pub countFor : ℕ → Bound → List (Span ℕ) → Option ℕ
+countFor kind bound segs = chosen bound (leastOf kind segs) (length segs) (runs segs)
 
 -- the reduction to exactly k rows
-unfoldable pub reducedTo : Bound → List (Span ℕ) → ℕ → Reduced
-reducedTo bound segs k =
+unfoldable pub reducedTo : ℕ → Bound → List (Span ℕ) → ℕ → Reduced
+reducedTo kind bound segs k =
     record {
-      rows = rowsOf (segmentAt segs) (length segs) (cutsOf (errorOf segs) (gapBelow segs) k (length segs));
-      error = Option·getD (leastOf segs k) 0;
-      weighed = weighed (errorOf segs) (gapBelow segs) (rowsTried bound (length segs) k) (length segs);
+      rows = rowsOf kind (segmentAt segs) (length segs) (cutsOf (errorOf kind segs) (gapBelow segs) k (length segs));
+      error = Option·getD (leastOf kind segs k) 0;
+      weighed = weighed (errorOf kind segs) (gapBelow segs) (rowsTried bound (length segs) k) (length segs);
     }
 
 -- the paper's answer to a bound: none where no number of rows answers it
-unfoldable pub reduced : Bound → List (Span ℕ) → Option Reduced
-reduced bound segs = elim (countFor bound segs) [ none ↦ none | some k ↦ some (reducedTo bound segs k) ]
+unfoldable pub reduced : ℕ → Bound → List (Span ℕ) → Option Reduced
+reduced kind bound segs = elim (countFor kind bound segs) [ none ↦ none | some k ↦ some (reducedTo kind bound segs k) ]

@@ -6,6 +6,9 @@
 // The greatest kind of a query or a slot.
 pub const MOST_KIND: u8 = 4;
 
+// The kind of the greatest load, whose rows hold the greatest value of their block.
+pub const GREATEST_KIND: u8 = 3;
+
 // The greatest group.
 pub const MOST_GROUP: u8 = 7;
 

@@ -16,7 +16,7 @@ use Rattle.model.specs.declared.Row.{Row}
 use Rattle.model.specs.declared.Reading.{Reading}
 use Rattle.theory.proofs.Tests.{true≢false}
 use Rattle.theory.proofs.Refusals.{all-lent, outcome-accepted, accepted-query}
-use Rattle.theory.proofs.Demands.{demand1}
+use Rattle.theory.proofs.Demands.{demand1, best-never-short}
 use Rattle.preparing.specs.Prepared.{writes, preparedSlot}
 use Rattle.preparing.proofs.Answering.{rows-held, accepted-slot}
 use Rattle.pacer.specs.Promises.{BestReading, noCounts}
@@ -84,4 +84,5 @@ best-reading q log slot reading b header rows =
       count = length (b .rows);
       header = header ∙ b .reads .header;
       best = rw is (b .best);
+      neverShort = rw is (best-never-short q log (b .error) (b .rows) (b .best));
     }

@@ -20,7 +20,7 @@ use Rattle.model.specs.declared.Bound.{Bound}
 use Rattle.model.specs.declared.Bound.the-variants.{Rows, Share}
 use Rattle.model.specs.declared.Query.{Query}
 use Rattle.theory.proofs.Refusals.{all-head, all-tail, all-lent, outcome-accepted, outcome-behind, refused-lent, refused-first}
-use Rattle.theory.proofs.Answer.{limitOf}
+use Rattle.theory.proofs.Guarantee.{limitOf}
 use Rattle.theory.proofs.Demands.{reduced-to}
 use Rattle.theory.proofs.SlotLaws.{listFrom-of}
 use Rattle.log.proofs.Columns.{map-at}
@@ -52,9 +52,9 @@ rows-held rows =
 
 -- ---- where no number of rows answers the bound
 
-reduced-none : (bound : Bound) (segs : List (Span ℕ)) → countFor bound segs ≡ none → reduced bound segs ≡ none
+reduced-none : (kind : ℕ) (bound : Bound) (segs : List (Span ℕ)) → countFor kind bound segs ≡ none → reduced kind bound segs ≡ none
 unfolding reduced
-reduced-none bound segs h = rw (h, reduced)
+reduced-none kind bound segs h = rw (h, reduced)
 
 -- ---- the slot that is prepared
 
@@ -110,21 +110,21 @@ module _ (q : Query) (log : List ℕ) (room : ℕ) where
     tenth = rw in-parts (outcome-behind (earlyQuestions q log room) last _ passed)
 
     -- the reduction of the log's segments, laid out, is the query's answer and slot
-    pub laid-out : (p : Prepared) → p ≡ laidOut (q .kind) (reduced (q .bound) (logSegments (q .kind) log))
+    pub laid-out : (p : Prepared) → p ≡ laidOut (q .kind) (reduced (q .kind) (q .bound) (logSegments (q .kind) log))
         → (queryCase (p .answer) ≡ queryOutcome q log room) × (p .bytes ≡ preparedSlot q log room)
     unfolding laidOut queryCase answerOf countsOf enoughRows logSegments isSome
-    laid-out p e = by (countFor (q .bound) (logSegments (q .kind) log)) refl
+    laid-out p e = by (countFor (q .kind) (q .bound) (logSegments (q .kind) log)) refl
       where
-        by : (o : Option ℕ) → countFor (q .bound) (logSegments (q .kind) log) ≡ o
+        by : (o : Option ℕ) → countFor (q .kind) (q .bound) (logSegments (q .kind) log) ≡ o
             → (queryCase (p .answer) ≡ queryOutcome q log room) × (p .bytes ≡ preparedSlot q log room)
         by none h =
             let says : queryOutcome q log room ≡ refused 10 0 = tenth ∙ rw h in
-            rw (e ∙ ap (laidOut (q .kind)) (reduced-none (q .bound) (logSegments (q .kind) log) h))
+            rw (e ∙ ap (laidOut (q .kind)) (reduced-none (q .kind) (q .bound) (logSegments (q .kind) log) h))
             (sym says, refused-slot q log room 10 0 says)
         by (some k) h =
-            let d : Reduced = reducedTo (q .bound) (logSegments (q .kind) log) k in
-            let is : reduced (q .bound) (logSegments (q .kind) log) ≡ some d =
-            reduced-to (q .bound) (logSegments (q .kind) log) k h in
+            let d : Reduced = reducedTo (q .kind) (q .bound) (logSegments (q .kind) log) k in
+            let is : reduced (q .kind) (q .bound) (logSegments (q .kind) log) ≡ some d =
+            reduced-to (q .kind) (q .bound) (logSegments (q .kind) log) k h in
             let answer : answerOf q log ≡ d = rw is in
             let says : queryOutcome q log room ≡ accepted (countsOf d) =
             tenth ∙ rw h (ap (λ r. accepted (countsOf r)) answer) in

@@ -105,7 +105,7 @@ fn lay_out(kind: u8, reduction: Reduction, rows: [Row; 64]) -> Prepared
 // The reduction of a log's segments that a query asks for, laid out, and question 10 where there is none.
 fn reduce(query: Query, log: &[u8]) -> Prepared
     requires { ⌜ AllPass (orderQuestions query (now log)) ⌝ }
-    ensures { λ r. ⌜ r ≡ laidOut (query .kind) (reduced (query .bound) (logSegments (query .kind) (now (log .entry)))) ⌝ }
+    ensures { λ r. ⌜ r ≡ laidOut (query .kind) (reduced (query .kind) (query .bound) (logSegments (query .kind) (now (log .entry)))) ⌝ }
 {
     let records = log::decode(log);
     let mut groups = [0u8; 255];
@@ -124,9 +124,19 @@ fn reduce(query: Query, log: &[u8]) -> Prepared
         &mut lasts,
         &mut values,
     );
+    let kind = query.kind;
     let wanted = query.bound;
     let mut cuts = [0u8; 64];
-    let reduction = split::reduce(&groups, &firsts, &lasts, &values, n, wanted, &mut cuts);
+    let reduction = split::reduce(
+        &groups,
+        &firsts,
+        &lasts,
+        &values,
+        n,
+        kind,
+        wanted,
+        &mut cuts,
+    );
     if !reduction.found {
         return Prepared {
             answer: refused(10, 0),
@@ -134,8 +144,8 @@ fn reduce(query: Query, log: &[u8]) -> Prepared
         };
     }
     let count = reduction.count;
-    let rows = rows::between(&cuts, &groups, &firsts, &lasts, &values, count, n);
-    lay_out(query.kind, reduction, rows)
+    let rows = rows::between(&cuts, &groups, &firsts, &lasts, &values, count, n, kind);
+    lay_out(kind, reduction, rows)
 }
 
 // Asks a query's questions and works out its slot, where as many bytes are lent.

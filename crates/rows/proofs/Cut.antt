@@ -72,16 +72,17 @@ ordered low i (j ∷ js) rest is b lt =
     ])
 
 -- the rows between them are the reduction's
-pub rows-between : (h : ℕ → Span ℕ) (i : ℕ) (js rest : List ℕ) → rowsBetween h (ascending js ++ rest) (length js) i ≡ rowsOf h i js
+pub rows-between : (kind : ℕ) (h : ℕ → Span ℕ) (i : ℕ) (js rest : List ℕ)
+    → rowsBetween kind h (ascending js ++ rest) (length js) i ≡ rowsOf kind h i js
 unfolding rowsBetween rowBetween rowsOf listFrom
-rows-between h i [] rest = refl
-rows-between h i (j ∷ js) rest =
+rows-between kind h i [] rest = refl
+rows-between kind h i (j ∷ js) rest =
     rw (apart j js rest)
-    (listFrom-snoc (rowBetween h (ascending js ++ (j ∷ rest)) (suc (length js)) i) (length js)
+    (listFrom-snoc (rowBetween kind h (ascending js ++ (j ∷ rest)) (suc (length js)) i) (length js)
     ∙ ap₂ {C = List (Span ℕ)} _++_
-    (listFrom-cong _ (rowBetween h (ascending js ++ (j ∷ rest)) (length js) j) 0 (length js)
+    (listFrom-cong _ (rowBetween kind h (ascending js ++ (j ∷ rest)) (length js) j) 0 (length js)
     (λ b ge lt. rw (end-before j js rest i (b + 1) (omega arith)))
-    ∙ rows-between h j js (j ∷ rest))
+    ∙ rows-between kind h j js (j ∷ rest))
     (rw (at-last j js rest, end-last (ascending js ++ (j ∷ rest)) (suc (length js)) i (length js + 1) (omega arith))))
 
 -- ---- rows stored one after the other
@@ -97,10 +98,10 @@ stored h next made row lt before is =
     ∙ sym (append-snoc (map rowOfSpan (listFrom 0 next h)) (rowOfSpan (h next)) (replicate (64 - suc next) (rowOfSpan nowhere))))
 
 -- the row from cut `next` to the end of its block
-pub row-stored : (seg : ℕ → Span ℕ) (cuts : List ℕ) (count n next from to : ℕ) (made : List Row) (row : Row) → next < 64
-    → made ≡ rowArray (listFrom 0 next (rowBetween seg cuts count n)) → from ≡ getD cuts next 0
-    → to ≡ endBefore cuts count n (next + 1) → row ≡ rowOfSpan (rowOf seg from to)
-    → set made next row ≡ rowArray (listFrom 0 (next + 1) (rowBetween seg cuts count n))
+pub row-stored : (kind : ℕ) (seg : ℕ → Span ℕ) (cuts : List ℕ) (count n next from to : ℕ) (made : List Row) (row : Row) → next < 64
+    → made ≡ rowArray (listFrom 0 next (rowBetween kind seg cuts count n)) → from ≡ getD cuts next 0
+    → to ≡ endBefore cuts count n (next + 1) → row ≡ rowOfSpan (rowOf kind seg from to)
+    → set made next row ≡ rowArray (listFrom 0 (next + 1) (rowBetween kind seg cuts count n))
 unfolding rowBetween
-row-stored seg cuts count n next from to made row lt before is-from is-to is-row =
-    stored (rowBetween seg cuts count n) next made row lt before (is-row ∙ rw (is-from, is-to))
+row-stored kind seg cuts count n next from to made row lt before is-from is-to is-row =
+    stored (rowBetween kind seg cuts count n) next made row lt before (is-row ∙ rw (is-from, is-to))

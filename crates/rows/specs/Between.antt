@@ -18,8 +18,8 @@ Ordered cuts count n = (b : ℕ) → b < count
     → (getD cuts b 0 < endBefore cuts count n (b + 1)) × (endBefore cuts count n (b + 1) ≤ n)
 
 -- the row of block b, and the rows of all `count` blocks
-unfoldable pub rowBetween : (ℕ → Span ℕ) → List ℕ → ℕ → ℕ → ℕ → Span ℕ
-rowBetween seg cuts count n b = rowOf seg (getD cuts b 0) (endBefore cuts count n (b + 1))
+unfoldable pub rowBetween : ℕ → (ℕ → Span ℕ) → List ℕ → ℕ → ℕ → ℕ → Span ℕ
+rowBetween kind seg cuts count n b = rowOf kind seg (getD cuts b 0) (endBefore cuts count n (b + 1))
 
-unfoldable pub rowsBetween : (ℕ → Span ℕ) → List ℕ → ℕ → ℕ → List (Span ℕ)
-rowsBetween seg cuts count n = listFrom 0 count (rowBetween seg cuts count n)
+unfoldable pub rowsBetween : ℕ → (ℕ → Span ℕ) → List ℕ → ℕ → ℕ → List (Span ℕ)
+rowsBetween kind seg cuts count n = listFrom 0 count (rowBetween kind seg cuts count n)

@@ -18,17 +18,22 @@ fn row(
     values: &[u32; 255],
     j: usize,
     i: usize,
+    kind: u8,
 ) -> Row
     requires { ⌜ (j < i) × Measurable (now firsts) (now lasts) (now values) i ⌝ }
-    ensures { λ r. ⌜ r ≡ rowOfSpan (rowOf (spanIn (now (groups .entry)) (now (firsts .entry)) (now (lasts .entry)) (now (values .entry))) j i) ⌝ }
+    ensures { λ r. ⌜ r ≡ rowOfSpan (rowOf kind (spanIn (now (groups .entry)) (now (firsts .entry)) (now (lasts .entry)) (now (values .entry))) j i) ⌝ }
 {
-    let last = i - 1;
+    let last_segment = i - 1;
     let block = measures::block_totals(firsts, lasts, values, j, i);
+    let group = groups[j];
+    let first = firsts[j];
+    let last = lasts[last_segment];
+    let value = block.row_value(kind) as u32;
     Row {
-        group: groups[j],
-        first: firsts[j],
-        last: lasts[last],
-        value: block.row_value() as u32,
+        group,
+        first,
+        last,
+        value,
     }
 }
 
@@ -49,18 +54,19 @@ pub fn between(
     values: &[u32; 255],
     count: usize,
     n: usize,
+    kind: u8,
 ) -> [Row; 64]
     requires { ⌜ count ≤ 64 ⌝ }
     requires { ⌜ Ordered (now cuts) count n ⌝ }
     requires { ⌜ Measurable (now firsts) (now lasts) (now values) n ⌝ }
-    ensures { λ r. ⌜ r ≡ rowArray (rowsBetween (spanIn (now (groups .entry)) (now (firsts .entry)) (now (lasts .entry)) (now (values .entry))) (now (cuts .entry)) count n) ⌝ }
+    ensures { λ r. ⌜ r ≡ rowArray (rowsBetween kind (spanIn (now (groups .entry)) (now (firsts .entry)) (now (lasts .entry)) (now (values .entry))) (now (cuts .entry)) count n) ⌝ }
 {
     let mut made = no_rows();
     let mut next: usize = 0;
     while next < count {
         let from = wide(cuts[next]);
         let to = end(cuts, next + 1, count, n);
-        made[next] = row(groups, firsts, lasts, values, from, to);
+        made[next] = row(groups, firsts, lasts, values, from, to, kind);
         next += 1;
     }
     made

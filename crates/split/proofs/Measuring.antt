@@ -6,25 +6,25 @@ use mathlib.Core.List.{List}
 use mathlib.Core.Option.{some}
 use mathlib.Core.Path.{_≡_, refl, sym, ap, _∙_, subst}
 use native.Mathlib.Omega.{arith}
-use lib.Dec.{leb, ltb, eqb, lit<}
+use lib.Dec.{ltb, eqb, lit<}
 use lib.ListN.{length, getD, set, replicate, length-replicate, getD-replicate}
-use borrow.Author.Tests.{leb-true, le-leb, ltb-true, ltb-false}
+use borrow.Author.Tests.{le-leb, ltb-true, ltb-false}
 use Rattle.model.specs.Common.{listFrom, sumFrom}
 use Rattle.model.specs.Spans.{Span}
-use Rattle.model.specs.Blocks.{blockError, errorWith, segmentAt, lastGap, runsTo}
+use Rattle.model.specs.Blocks.{segmentAt, lastGap, runsTo}
 use Rattle.model.specs.Split.{single, cell, least, weighed, cutsOf, fewest, within, firstThat, mostRows, chosen, rowsTried, errorOf, gapBelow, runs}
+use Rattle.model.specs.Reductions.{IsReduction, reductionError}
 use Rattle.model.specs.Arrays.{spanIn, spansIn}
 use Rattle.model.specs.Room.{Measured, mostError}
 use Rattle.model.specs.declared.Bound.{Bound}
 use Rattle.model.specs.declared.Bound.the-variants.{Rows, Share}
 use Rattle.theory.proofs.Tests.{cases, none≢some, some-inj, true≢false}
 use Rattle.theory.proofs.Lists.{after-set}
-use Rattle.theory.proofs.Cost.{errorIn, costOf}
-use Rattle.theory.proofs.Nearest.{squares}
-use Rattle.theory.proofs.Blocks.{wider}
 use Rattle.theory.proofs.Table.{sound, blocks-le, cutsOf-length}
-use Rattle.theory.proofs.Choice.{lastGap-le, runs-le, errors-some, limit-answer, share-answer}
-use Rattle.theory.proofs.Bounds.{by-number, error-le, squares-split, squares-most, reduction-error-le}
+use Rattle.theory.proofs.Choice.{lastGap-le, runs-le, errors-some}
+use Rattle.theory.proofs.Bounds.{error-range, reduction-error-le}
+use Rattle.theory.proofs.Guarantee.{answer-reduces}
+use Rattle.theory.proofs.Answer.{widens}
 use Rattle.theory.proofs.SlotLaws.{length-listFrom}
 use Rattle.triangle.specs.Places.{gapAt, Agree}
 use Rattle.triangle.specs.Costs.{Costs}
@@ -45,75 +45,62 @@ use Rattle.split.proofs.Sharing.{reduces-cong}
 
 -- ---- all that a table asks
 
-errorOf-wider : (segs : List (Span ℕ)) (a b i : ℕ) → a ≤ b → b < i → errorOf segs b i ≤ errorOf segs a i
-unfolding errorOf blockError errorWith errorIn costOf squares
-errorOf-wider segs = wider squares (segmentAt segs)
-
-module _ (segs : List (Span ℕ)) (ok : Measured segs) where
-  -- the error of each block is in range
-  error-range : (j i : ℕ) → j ≤ i → i ≤ length segs → errorOf segs j i ≤ mostError
-  unfolding errorOf
-  error-range j i le le′ =
-      let listed : Measured (listFrom 0 (length segs) (segmentAt segs)) = rw (by-number segs) ok in
-      let here = error-le (segmentAt segs) (length segs) listed j i in
-      omega (arith, squares-split (segmentAt segs) (length segs) listed j i le, squares-most (segmentAt segs) (length segs) listed i le′)
-
-  pub costs-of : Costs (errorOf segs) (gapBelow segs) (length segs) (runs segs)
-  unfolding gapBelow runs chosen firstThat within mostRows
-  costs-of =
+-- of errors that a wider block does not lower and that stay in range, whatever a block costs
+module _ (segs : List (Span ℕ)) (few : length segs ≤ 255) (err : ℕ → ℕ → ℕ)
+    (widens : (a b i : ℕ) → a ≤ b → b < i → err b i ≤ err a i)
+    (range : (j i : ℕ) → j ≤ i → i ≤ length segs → err j i ≤ mostError)
+    (reduction-le : (i : ℕ) (cuts : List ℕ) → i ≤ length segs → IsReduction (gapBelow segs) i cuts
+    → reductionError err i cuts ≤ mostError) where
+  costs-by : Costs err (gapBelow segs) (length segs) (runs segs)
+  unfolding gapBelow runs
+  costs-by =
       record {
-        few = ok .few;
+        few = few;
         gap-below = gap-below;
-        block-le = λ j i above lt le. error-range j i (omega arith) le;
+        block-le = λ j i above lt le. range j i (omega arith) le;
         least-le = λ k i t le e.
-            let (is, q) = sound (errorOf segs) (lastGap (segmentAt segs)) (errorOf-wider segs) k i t e in
-            omega (arith, q, reduction-error-le segs ok (lastGap (segmentAt segs)) i (cutsOf (errorOf segs) (lastGap (segmentAt segs)) k i) le is);
-        possible = λ k lo hi. errors-some (segmentAt segs) (length segs) (errorOf segs) (errorOf-wider segs) k lo hi;
+            let (is, q) = sound err (lastGap (segmentAt segs)) widens k i t e in
+            omega (arith, q, reduction-le i (cutsOf err (lastGap (segmentAt segs)) k i) le is);
+        possible = λ k lo hi. errors-some (segmentAt segs) (length segs) err widens k lo hi;
         needed = λ k t e.
-            let (is, q) = sound (errorOf segs) (lastGap (segmentAt segs)) (errorOf-wider segs) k (length segs) t e in
-            let size = cutsOf-length (errorOf segs) (lastGap (segmentAt segs)) k (length segs) in
-            let many = runs-le (segmentAt segs) (length segs) (cutsOf (errorOf segs) (lastGap (segmentAt segs)) k (length segs)) is in
-            let few = blocks-le (lastGap (segmentAt segs)) (length segs) (cutsOf (errorOf segs) (lastGap (segmentAt segs)) k (length segs)) is in
+            let (is, q) = sound err (lastGap (segmentAt segs)) widens k (length segs) t e in
+            let size = cutsOf-length err (lastGap (segmentAt segs)) k (length segs) in
+            let many = runs-le (segmentAt segs) (length segs) (cutsOf err (lastGap (segmentAt segs)) k (length segs)) is in
+            let few = blocks-le (lastGap (segmentAt segs)) (length segs) (cutsOf err (lastGap (segmentAt segs)) k (length segs)) is in
             (omega arith, omega arith);
-        sound = λ k t e. sound (errorOf segs) (lastGap (segmentAt segs)) (errorOf-wider segs) k (length segs) t e .0;
-        answers = answers;
+        sound = λ k t e. sound err (lastGap (segmentAt segs)) widens k (length segs) t e .0;
+        answers = λ bound k e.
+            let (t, is, reduces) = answer-reduces (segmentAt segs) (length segs) err widens bound k e in
+            (t, is);
       }
     where
       gap-below : (i : ℕ) → 0 < i → i ≤ length segs → lastGap (segmentAt segs) i < i
       gap-below zero lo le = absurd (omega arith)
       gap-below (suc i) lo le = omega (arith, lastGap-le (segmentAt segs) i)
 
-      answers : (bound : Bound) (k : ℕ)
-          → chosen bound (λ x. least (errorOf segs) (lastGap (segmentAt segs)) x (length segs)) (length segs) (runsTo (segmentAt segs) (length segs)) ≡ some k
-          → (t : ℕ) × (least (errorOf segs) (lastGap (segmentAt segs)) k (length segs) ≡ some t)
-      answers (Rows c) k e =
-          cases (leb (runsTo (segmentAt segs) (length segs)) c)
-          (λ enough.
-          let (t, is, best) = limit-answer (segmentAt segs) (length segs) (errorOf segs) (errorOf-wider segs) c (leb-true _ _ enough) in
-          let same = some-inj refl (rw enough at e) in
-          (t, rw same at is))
-          (λ few. absurd (none≢some {a = k} refl (rw few at e)))
-      answers (Share p) k e =
-          let (t, is, best) = share-answer (segmentAt segs) (length segs) (errorOf segs) (errorOf-wider segs) p 65 k e in
-          (t, is)
+-- of the errors of measured segments, by the kind
+pub costs-of : (kind : ℕ) (segs : List (Span ℕ)) → Measured segs → Costs (errorOf kind segs) (gapBelow segs) (length segs) (runs segs)
+costs-of kind segs ok =
+    costs-by segs (ok .few) (errorOf kind segs) (widens kind segs) (error-range kind segs ok)
+    (reduction-error-le kind segs ok (gapBelow segs))
 
 -- ---- segments in arrays
 
-module _ {groups firsts lasts values : List ℕ} {n m : ℕ} {bound : Bound} (c : Counted groups firsts lasts values n m bound) where
+module _ (kind : ℕ) {groups firsts lasts values : List ℕ} {n m : ℕ} {bound : Bound} (c : Counted groups firsts lasts values n m bound) where
   abbrev segs : List (Span ℕ)
   segs = spansIn groups firsts lasts values n
 
-  pub costs : Costs (errorOf segs) (gapBelow segs) n m
-  costs = rw (c .is-runs) (rw (length-listFrom 0 n (spanIn groups firsts lasts values)) at (costs-of segs (c .measured)))
+  pub costs : Costs (errorOf kind segs) (gapBelow segs) n m
+  costs = rw (c .is-runs) (rw (length-listFrom 0 n (spanIn groups firsts lasts values)) at (costs-of kind segs (c .measured)))
 
   module _ (gaps : List ℕ) (gaps-at : (i : ℕ) → i ≤ n → getD gaps i 0 ≡ gapBelow segs i) where
     -- the blocks' costs without groups, and the gaps that are held, are the segments' own
-    pub agree : Agree (costIn firsts lasts values) (gapAt gaps) (errorOf segs) (gapBelow segs) n
+    pub agree : Agree (costIn kind firsts lasts values) (gapAt gaps) (errorOf kind segs) (gapBelow segs) n
     unfolding gapAt
     agree =
-        record { gaps = gaps-at; errors = λ j i above lt le. sym (error-plain groups firsts lasts values n j i le) }
+        record { gaps = gaps-at; errors = λ j i above lt le. sym (error-plain groups firsts lasts values kind n j i le) }
 
-    pub ready : Ready firsts lasts values gaps n m bound
+    pub ready : Ready kind firsts lasts values gaps n m bound
     ready =
         record {
           measurable = measurable groups firsts lasts values n (c .measured);
@@ -124,15 +111,15 @@ module _ {groups firsts lasts values : List ℕ} {n m : ℕ} {bound : Bound} (c 
         }
 
     -- and so is the reduction by them
-    pub reduced : {r : Reduction} {before after : List ℕ} → Shares firsts lasts values gaps n m bound r before after
-        → Reduced groups firsts lasts values n bound r before after
+    pub reduced : {r : Reduction} {before after : List ℕ} → Shares kind firsts lasts values gaps n m bound r before after
+        → Reduced kind groups firsts lasts values n bound r before after
     reduced {r} {before} {after} h =
-        subst (λ (x : ℕ). Reduces (errorOf segs) (gapBelow segs) n x bound r before after) (c .is-runs) (reduces-cong agree m bound h)
+        subst (λ (x : ℕ). Reduces (errorOf kind segs) (gapBelow segs) n x bound r before after) (c .is-runs) (reduces-cong agree m bound h)
 
 -- where there is a segment there is a run
-pub some-run : {firsts lasts values gaps : List ℕ} {n m : ℕ} {bound : Bound} → Ready firsts lasts values gaps n m bound → m ≡ 0 → ⊥
-some-run {firsts} {lasts} {values} {gaps} {n} r no-runs =
-    none≢some (no-rows (costIn firsts lasts values) (gapAt gaps) n (r .some-segments)) (r .costs .possible 0 (omega arith) (omega arith) .1)
+pub some-run : {kind : ℕ} {firsts lasts values gaps : List ℕ} {n m : ℕ} {bound : Bound} → Ready kind firsts lasts values gaps n m bound → m ≡ 0 → ⊥
+some-run {kind} {firsts} {lasts} {values} {gaps} {n} r no-runs =
+    none≢some (no-rows (costIn kind firsts lasts values) (gapAt gaps) n (r .some-segments)) (r .costs .possible 0 (omega arith) (omega arith) .1)
 
 -- ---- one row
 
@@ -233,12 +220,12 @@ module _ (groups firsts lasts values : List ℕ) (n : ℕ) where
   no-runs none-here = rw none-here
 
 -- the same of segments in arrays
-pub reduced-by : {groups firsts lasts values : List ℕ} {n m : ℕ} {bound : Bound} → Counted groups firsts lasts values n m bound
+pub reduced-by : (kind : ℕ) {groups firsts lasts values : List ℕ} {n m : ℕ} {bound : Bound} → Counted groups firsts lasts values n m bound
     → {r : Reduction} {before after : List ℕ}
-    → (r ≡ reductionFor (errorOf (spansIn groups firsts lasts values n)) (gapBelow (spansIn groups firsts lasts values n)) n m bound)
-    × (after ≡ cutsFor (errorOf (spansIn groups firsts lasts values n)) (gapBelow (spansIn groups firsts lasts values n)) n m bound before)
-    → Reduced groups firsts lasts values n bound r before after
-reduced-by {groups} {firsts} {lasts} {values} {n} {m} {bound} c {r} {before} {after} h =
+    → (r ≡ reductionFor (errorOf kind (spansIn groups firsts lasts values n)) (gapBelow (spansIn groups firsts lasts values n)) n m bound)
+    × (after ≡ cutsFor (errorOf kind (spansIn groups firsts lasts values n)) (gapBelow (spansIn groups firsts lasts values n)) n m bound before)
+    → Reduced kind groups firsts lasts values n bound r before after
+reduced-by kind {groups} {firsts} {lasts} {values} {n} {m} {bound} c {r} {before} {after} h =
     subst
-    (λ (x : ℕ). Reduces (errorOf (spansIn groups firsts lasts values n)) (gapBelow (spansIn groups firsts lasts values n)) n x bound r before after)
+    (λ (x : ℕ). Reduces (errorOf kind (spansIn groups firsts lasts values n)) (gapBelow (spansIn groups firsts lasts values n)) n x bound r before after)
     (c .is-runs) (reduces h)

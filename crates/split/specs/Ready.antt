@@ -17,9 +17,9 @@ use Rattle.cuts.specs.declared.Reduction.{Reduction}
 use Rattle.errors.specs.Filled.{costIn}
 
 -- n segments in m runs, of which there are some, and a bound that leaves a row for each run
-pub record Ready (firsts lasts values gaps : List ℕ) (n m : ℕ) (bound : Bound) : Type 0 where
+pub record Ready (kind : ℕ) (firsts lasts values gaps : List ℕ) (n m : ℕ) (bound : Bound) : Type 0 where
   pub measurable : Measurable firsts lasts values n
-  pub costs : Costs (costIn firsts lasts values) (gapAt gaps) n m
+  pub costs : Costs (costIn kind firsts lasts values) (gapAt gaps) n m
   pub some-segments : 1 ≤ n
   pub known : Known bound
   pub covers : coversRuns bound m ≡ true
@@ -36,9 +36,9 @@ pub record Reduces (err : ℕ → ℕ → ℕ) (low : ℕ → ℕ) (n m : ℕ) (
   pub weighed : 2 * r .weighed ≤ (rowsTried bound n (r .count) - 1) * (n * (n - 1))
 
 -- the same by what blocks of these segments cost
-abbrev pub Shares : List ℕ → List ℕ → List ℕ → List ℕ → ℕ → ℕ → Bound → Reduction → List ℕ → List ℕ → Type 0
-Shares firsts lasts values gaps n m bound r before after =
-    Reduces (costIn firsts lasts values) (gapAt gaps) n m bound r before after
+abbrev pub Shares : ℕ → List ℕ → List ℕ → List ℕ → List ℕ → ℕ → ℕ → Bound → Reduction → List ℕ → List ℕ → Type 0
+Shares kind firsts lasts values gaps n m bound r before after =
+    Reduces (costIn kind firsts lasts values) (gapAt gaps) n m bound r before after
 
 -- n measured segments in m runs, of which there are some, and a bound that leaves a row for each run
 pub record Counted (groups firsts lasts values : List ℕ) (n m : ℕ) (bound : Bound) : Type 0 where
@@ -49,9 +49,9 @@ pub record Counted (groups firsts lasts values : List ℕ) (n m : ℕ) (bound : 
   pub covers : coversRuns bound m ≡ true
 
 -- the reduction of n segments that answers the bound, and its cuts
-abbrev pub Reduced : List ℕ → List ℕ → List ℕ → List ℕ → ℕ → Bound → Reduction → List ℕ → List ℕ → Type 0
-Reduced groups firsts lasts values n bound r before after =
-    Reduces (errorOf (spansIn groups firsts lasts values n)) (gapBelow (spansIn groups firsts lasts values n)) n
+abbrev pub Reduced : ℕ → List ℕ → List ℕ → List ℕ → List ℕ → ℕ → Bound → Reduction → List ℕ → List ℕ → Type 0
+Reduced kind groups firsts lasts values n bound r before after =
+    Reduces (errorOf kind (spansIn groups firsts lasts values n)) (gapBelow (spansIn groups firsts lasts values n)) n
     (runs (spansIn groups firsts lasts values n)) bound r before after
 
 -- the reduction of no segments: no rows and no error

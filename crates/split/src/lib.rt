@@ -45,17 +45,18 @@ fn share_out(
     values: &[u32; 255],
     gaps: &[u8; 256],
     n: usize,
+    kind: u8,
     bound: Bound,
     runs: usize,
     errors: &mut [u64],
     cuts: &mut [u8; 64],
     column: &mut [u64; 65],
 ) -> Reduction
-    requires { ⌜ Ready (now firsts) (now lasts) (now values) (now gaps) n runs bound ⌝ }
+    requires { ⌜ Ready kind (now firsts) (now lasts) (now values) (now gaps) n runs bound ⌝ }
     requires { ⌜ Lent (now cuts) (now column) × (rowStart (n + 1) ≤ length (now errors)) ⌝ }
-    ensures { λ r. ⌜ Shares (now (firsts .entry)) (now (lasts .entry)) (now (values .entry)) (now (gaps .entry)) n runs bound r (now (cuts .entry)) (now (cuts .exit)) ⌝ }
+    ensures { λ r. ⌜ Shares kind (now (firsts .entry)) (now (lasts .entry)) (now (values .entry)) (now (gaps .entry)) n runs bound r (now (cuts .entry)) (now (cuts .exit)) ⌝ }
 {
-    errors::fill(firsts, lasts, values, gaps, n, errors);
+    errors::fill(firsts, lasts, values, gaps, n, kind, errors);
     table::fill(errors, gaps, n, bound, runs, cuts, column)
 }
 
@@ -66,14 +67,15 @@ fn up_to_8(
     values: &[u32; 255],
     gaps: &[u8; 256],
     n: usize,
+    kind: u8,
     bound: Bound,
     runs: usize,
     cuts: &mut [u8; 64],
     column: &mut [u64; 65],
 ) -> Reduction
-    requires { ⌜ Ready (now firsts) (now lasts) (now values) (now gaps) n runs bound × (n ≤ 8) ⌝ }
+    requires { ⌜ Ready kind (now firsts) (now lasts) (now values) (now gaps) n runs bound × (n ≤ 8) ⌝ }
     requires { ⌜ Lent (now cuts) (now column) ⌝ }
-    ensures { λ r. ⌜ Shares (now (firsts .entry)) (now (lasts .entry)) (now (values .entry)) (now (gaps .entry)) n runs bound r (now (cuts .entry)) (now (cuts .exit)) ⌝ }
+    ensures { λ r. ⌜ Shares kind (now (firsts .entry)) (now (lasts .entry)) (now (values .entry)) (now (gaps .entry)) n runs bound r (now (cuts .entry)) (now (cuts .exit)) ⌝ }
 {
     let mut errors = triangle::for_8();
     share_out(
@@ -82,6 +84,7 @@ fn up_to_8(
         values,
         gaps,
         n,
+        kind,
         bound,
         runs,
         &mut errors,
@@ -97,14 +100,15 @@ fn up_to_32(
     values: &[u32; 255],
     gaps: &[u8; 256],
     n: usize,
+    kind: u8,
     bound: Bound,
     runs: usize,
     cuts: &mut [u8; 64],
     column: &mut [u64; 65],
 ) -> Reduction
-    requires { ⌜ Ready (now firsts) (now lasts) (now values) (now gaps) n runs bound × (n ≤ 32) ⌝ }
+    requires { ⌜ Ready kind (now firsts) (now lasts) (now values) (now gaps) n runs bound × (n ≤ 32) ⌝ }
     requires { ⌜ Lent (now cuts) (now column) ⌝ }
-    ensures { λ r. ⌜ Shares (now (firsts .entry)) (now (lasts .entry)) (now (values .entry)) (now (gaps .entry)) n runs bound r (now (cuts .entry)) (now (cuts .exit)) ⌝ }
+    ensures { λ r. ⌜ Shares kind (now (firsts .entry)) (now (lasts .entry)) (now (values .entry)) (now (gaps .entry)) n runs bound r (now (cuts .entry)) (now (cuts .exit)) ⌝ }
 {
     let mut errors = triangle::for_32();
     share_out(
@@ -113,6 +117,7 @@ fn up_to_32(
         values,
         gaps,
         n,
+        kind,
         bound,
         runs,
         &mut errors,
@@ -128,14 +133,15 @@ fn up_to_64(
     values: &[u32; 255],
     gaps: &[u8; 256],
     n: usize,
+    kind: u8,
     bound: Bound,
     runs: usize,
     cuts: &mut [u8; 64],
     column: &mut [u64; 65],
 ) -> Reduction
-    requires { ⌜ Ready (now firsts) (now lasts) (now values) (now gaps) n runs bound × (n ≤ 64) ⌝ }
+    requires { ⌜ Ready kind (now firsts) (now lasts) (now values) (now gaps) n runs bound × (n ≤ 64) ⌝ }
     requires { ⌜ Lent (now cuts) (now column) ⌝ }
-    ensures { λ r. ⌜ Shares (now (firsts .entry)) (now (lasts .entry)) (now (values .entry)) (now (gaps .entry)) n runs bound r (now (cuts .entry)) (now (cuts .exit)) ⌝ }
+    ensures { λ r. ⌜ Shares kind (now (firsts .entry)) (now (lasts .entry)) (now (values .entry)) (now (gaps .entry)) n runs bound r (now (cuts .entry)) (now (cuts .exit)) ⌝ }
 {
     let mut errors = triangle::for_64();
     share_out(
@@ -144,6 +150,7 @@ fn up_to_64(
         values,
         gaps,
         n,
+        kind,
         bound,
         runs,
         &mut errors,
@@ -159,14 +166,15 @@ fn up_to_128(
     values: &[u32; 255],
     gaps: &[u8; 256],
     n: usize,
+    kind: u8,
     bound: Bound,
     runs: usize,
     cuts: &mut [u8; 64],
     column: &mut [u64; 65],
 ) -> Reduction
-    requires { ⌜ Ready (now firsts) (now lasts) (now values) (now gaps) n runs bound × (n ≤ 128) ⌝ }
+    requires { ⌜ Ready kind (now firsts) (now lasts) (now values) (now gaps) n runs bound × (n ≤ 128) ⌝ }
     requires { ⌜ Lent (now cuts) (now column) ⌝ }
-    ensures { λ r. ⌜ Shares (now (firsts .entry)) (now (lasts .entry)) (now (values .entry)) (now (gaps .entry)) n runs bound r (now (cuts .entry)) (now (cuts .exit)) ⌝ }
+    ensures { λ r. ⌜ Shares kind (now (firsts .entry)) (now (lasts .entry)) (now (values .entry)) (now (gaps .entry)) n runs bound r (now (cuts .entry)) (now (cuts .exit)) ⌝ }
 {
     let mut errors = triangle::for_128();
     share_out(
@@ -175,6 +183,7 @@ fn up_to_128(
         values,
         gaps,
         n,
+        kind,
         bound,
         runs,
         &mut errors,
@@ -190,14 +199,15 @@ fn up_to_255(
     values: &[u32; 255],
     gaps: &[u8; 256],
     n: usize,
+    kind: u8,
     bound: Bound,
     runs: usize,
     cuts: &mut [u8; 64],
     column: &mut [u64; 65],
 ) -> Reduction
-    requires { ⌜ Ready (now firsts) (now lasts) (now values) (now gaps) n runs bound × (n ≤ 255) ⌝ }
+    requires { ⌜ Ready kind (now firsts) (now lasts) (now values) (now gaps) n runs bound × (n ≤ 255) ⌝ }
     requires { ⌜ Lent (now cuts) (now column) ⌝ }
-    ensures { λ r. ⌜ Shares (now (firsts .entry)) (now (lasts .entry)) (now (values .entry)) (now (gaps .entry)) n runs bound r (now (cuts .entry)) (now (cuts .exit)) ⌝ }
+    ensures { λ r. ⌜ Shares kind (now (firsts .entry)) (now (lasts .entry)) (now (values .entry)) (now (gaps .entry)) n runs bound r (now (cuts .entry)) (now (cuts .exit)) ⌝ }
 {
     let mut errors = triangle::for_255();
     share_out(
@@ -206,6 +216,7 @@ fn up_to_255(
         values,
         gaps,
         n,
+        kind,
         bound,
         runs,
         &mut errors,
@@ -222,25 +233,70 @@ fn large(
     values: &[u32; 255],
     gaps: &[u8; 256],
     n: usize,
+    kind: u8,
     bound: Bound,
     runs: usize,
     cuts: &mut [u8; 64],
     column: &mut [u64; 65],
 ) -> Reduction
-    requires { ⌜ Ready (now firsts) (now lasts) (now values) (now gaps) n runs bound ⌝ }
+    requires { ⌜ Ready kind (now firsts) (now lasts) (now values) (now gaps) n runs bound ⌝ }
     requires { ⌜ Lent (now cuts) (now column) ⌝ }
-    ensures { λ r. ⌜ Shares (now (firsts .entry)) (now (lasts .entry)) (now (values .entry)) (now (gaps .entry)) n runs bound r (now (cuts .entry)) (now (cuts .exit)) ⌝ }
+    ensures { λ r. ⌜ Shares kind (now (firsts .entry)) (now (lasts .entry)) (now (values .entry)) (now (gaps .entry)) n runs bound r (now (cuts .entry)) (now (cuts .exit)) ⌝ }
 {
     if runs == 0 {
-        return large(firsts, lasts, values, gaps, n, bound, runs, cuts, column);
+        return large(
+            firsts,
+            lasts,
+            values,
+            gaps,
+            n,
+            kind,
+            bound,
+            runs,
+            cuts,
+            column,
+        );
     }
     if n <= 64 {
-        return up_to_64(firsts, lasts, values, gaps, n, bound, runs, cuts, column);
+        return up_to_64(
+            firsts,
+            lasts,
+            values,
+            gaps,
+            n,
+            kind,
+            bound,
+            runs,
+            cuts,
+            column,
+        );
     }
     if n <= 128 {
-        return up_to_128(firsts, lasts, values, gaps, n, bound, runs, cuts, column);
+        return up_to_128(
+            firsts,
+            lasts,
+            values,
+            gaps,
+            n,
+            kind,
+            bound,
+            runs,
+            cuts,
+            column,
+        );
     }
-    up_to_255(firsts, lasts, values, gaps, n, bound, runs, cuts, column)
+    up_to_255(
+        firsts,
+        lasts,
+        values,
+        gaps,
+        n,
+        kind,
+        bound,
+        runs,
+        cuts,
+        column,
+    )
 }
 
 // The reduction by the split table, of as many segments as there are.
@@ -250,13 +306,14 @@ fn tabulate(
     lasts: &[u16; 255],
     values: &[u32; 255],
     n: usize,
+    kind: u8,
     bound: Bound,
     runs: usize,
     cuts: &mut [u8; 64],
 ) -> Reduction
     requires { ⌜ Counted (now groups) (now firsts) (now lasts) (now values) n runs bound ⌝ }
     requires { ⌜ length (now cuts) ≡ 64 ⌝ }
-    ensures { λ r. ⌜ Reduced (now (groups .entry)) (now (firsts .entry)) (now (lasts .entry)) (now (values .entry)) n bound r (now (cuts .entry)) (now (cuts .exit)) ⌝ }
+    ensures { λ r. ⌜ Reduced kind (now (groups .entry)) (now (firsts .entry)) (now (lasts .entry)) (now (values .entry)) n bound r (now (cuts .entry)) (now (cuts .exit)) ⌝ }
 {
     let gaps = measures::gaps(groups, firsts, lasts, n);
     let mut column = no_column();
@@ -267,6 +324,7 @@ fn tabulate(
             values,
             &gaps,
             n,
+            kind,
             bound,
             runs,
             cuts,
@@ -280,6 +338,7 @@ fn tabulate(
             values,
             &gaps,
             n,
+            kind,
             bound,
             runs,
             cuts,
@@ -292,6 +351,7 @@ fn tabulate(
         values,
         &gaps,
         n,
+        kind,
         bound,
         runs,
         cuts,
@@ -306,17 +366,18 @@ fn reduce_run(
     lasts: &[u16; 255],
     values: &[u32; 255],
     n: usize,
+    kind: u8,
     bound: Bound,
     cuts: &mut [u8; 64],
 ) -> Reduction
     requires { ⌜ Counted (now groups) (now firsts) (now lasts) (now values) n 1 bound ⌝ }
     requires { ⌜ length (now cuts) ≡ 64 ⌝ }
-    ensures { λ r. ⌜ Reduced (now (groups .entry)) (now (firsts .entry)) (now (lasts .entry)) (now (values .entry)) n bound r (now (cuts .entry)) (now (cuts .exit)) ⌝ }
+    ensures { λ r. ⌜ Reduced kind (now (groups .entry)) (now (firsts .entry)) (now (lasts .entry)) (now (values .entry)) n bound r (now (cuts .entry)) (now (cuts .exit)) ⌝ }
 {
     let mut column = no_column();
-    column[1] = errors::whole(firsts, lasts, values, n);
+    column[1] = errors::whole(firsts, lasts, values, n, kind);
     if goes_on(bound, &column, 1, 1, last_row(bound, n)) {
-        return tabulate(groups, firsts, lasts, values, n, bound, 1, cuts);
+        return tabulate(groups, firsts, lasts, values, n, kind, bound, 1, cuts);
     }
     one_row(&column, n, bound, 1, cuts)
 }
@@ -328,12 +389,13 @@ pub fn reduce(
     lasts: &[u16; 255],
     values: &[u32; 255],
     n: usize,
+    kind: u8,
     bound: Bound,
     cuts: &mut [u8; 64],
 ) -> Reduction
     requires { ⌜ Measured (spansIn (now groups) (now firsts) (now lasts) (now values) n) × Known bound ⌝ }
     requires { ⌜ length (now cuts) ≡ 64 ⌝ }
-    ensures { λ r. ⌜ Reduced (now (groups .entry)) (now (firsts .entry)) (now (lasts .entry)) (now (values .entry)) n bound r (now (cuts .entry)) (now (cuts .exit)) ⌝ }
+    ensures { λ r. ⌜ Reduced kind (now (groups .entry)) (now (firsts .entry)) (now (lasts .entry)) (now (values .entry)) n bound r (now (cuts .entry)) (now (cuts .exit)) ⌝ }
 {
     if n == 0 {
         return nothing();
@@ -343,7 +405,7 @@ pub fn reduce(
         return refused();
     }
     if runs == 1 {
-        return reduce_run(groups, firsts, lasts, values, n, bound, cuts);
+        return reduce_run(groups, firsts, lasts, values, n, kind, bound, cuts);
     }
-    tabulate(groups, firsts, lasts, values, n, bound, runs, cuts)
+    tabulate(groups, firsts, lasts, values, n, kind, bound, runs, cuts)
 }

@@ -1,10 +1,10 @@
 -- Laws of blocks: how a block grows, that totals of neighbours add, and that a wider block costs no less under any cost.
 -- Assumes nothing.
-use Prim.Native.Nat.{ℕ, zero, suc, _-_, _≤_, _<_}
+use Prim.Native.Nat.{ℕ, zero, suc, _-_, _≤_, _<_, max}
 use mathlib.Core.List.{List, [], _∷_, _++_, List·Memᴰ·tail}
 use mathlib.Core.Path.{_≡_, sym, ap, _∙_}
 use native.Mathlib.Decide.{ℕ-discrete}
-use native.Mathlib.Nat.{le-refl, le-trans, zero-add, add-assoc}
+use native.Mathlib.Nat.{le-refl, le-trans, zero-add, add-assoc, zero-max}
 use native.Mathlib.Omega.{arith}
 use Rattle.model.specs.Common.{sumOf, listFrom}
 use Rattle.model.specs.Spans.{Span, spanLength}
@@ -27,7 +27,17 @@ block-empty seg i =
 
 add-empty : (t : Totals) → add empty t ≡ t
 unfolding add empty
-add-empty t = λ i. record { frames = zero-add (t .frames) i; sum = zero-add (t .sum) i; squares = zero-add (t .squares) i }
+add-empty t =
+    λ i.
+    record {
+      frames = zero-add (t .frames) i;
+      sum = zero-add (t .sum) i;
+      squares = zero-add (t .squares) i;
+      greatest = zero-max (t .greatest) i;
+    }
+
+max-assoc : (a b c : ℕ) → max (max a b) c ≡ max a (max b c)
+max-assoc a b c = omega arith
 
 add-assoc-totals : (t u w : Totals) → add (add t u) w ≡ add t (add u w)
 unfolding add
@@ -37,6 +47,7 @@ add-assoc-totals t u w =
       frames = add-assoc (t .frames) (u .frames) (w .frames) i;
       sum = add-assoc (t .sum) (u .sum) (w .sum) i;
       squares = add-assoc (t .squares) (u .squares) (w .squares) i;
+      greatest = max-assoc (t .greatest) (u .greatest) (w .greatest) i;
     }
 
 -- totals of neighbours add

@@ -1,6 +1,6 @@
 -- Every number that the tool holds fits 64 bits. The loads of a log's records are at most 1,000 and its records at most 128,
--- so that a frame's value is at most 128,000; all segments together have no more frames than there are; so a block's totals
--- and the error of any reduction are below 2^53, and 1,000 times such an error is below 2^64. Assumes nothing.
+-- so that a frame's value is at most 128,000, and a row's too; all segments together have no more frames than there are; so a
+-- block's totals and the error of any reduction are below 2^53, and 1,000 times such an error is below 2^64. Assumes nothing.
 use Prim.Native.Nat.{ℕ, zero, suc, _+_, _-_, _*_, _^_, _/_, _≤_, _<_, zero-le, min, max}
 use mathlib.Core.Bool.{_&&_}
 use mathlib.Core.List.{List, [], _∷_, _++_, foldr, List·Memᴰ, List·Memᴰ·head, List·Memᴰ·tail, List·Memᴰ·cases-cons, List·Memᴰ·not-nil}
@@ -8,7 +8,7 @@ use mathlib.Core.Logic.{⊎-elim}
 use mathlib.Core.Option.{Option, none, some}
 use mathlib.Core.Path.{_≡_, refl, ap, _∙_, subst}
 use native.Mathlib.Decide.{decLe}
-use native.Mathlib.Nat.{le-refl, le-trans, le-of-lt, lt-of-not-le, mul-le-mul-left, mul-le-mul-right, add-zero, zero-add, sub-zero, div-add-mod', mod-lt}
+use native.Mathlib.Nat.{le-refl, le-trans, le-of-lt, lt-of-not-le, mul-le-mul-left, mul-le-mul-right, zero-add, sub-zero, div-add-mod', mod-lt}
 use native.Mathlib.Omega.{arith}
 use lib.Dec.{ltb, eqb}
 use lib.IntN.{pos}
@@ -18,7 +18,7 @@ use Rattle.model.specs.Common.{sumFrom, sumOf, listFrom}
 use Rattle.model.specs.Spans.{Span, groupCount, frameCount, spanLength, meets, nowhere}
 use Rattle.model.specs.Log.{recordLength, recordAt, recordCount, records, meeting, sum, aggregate, aggregated, value}
 use Rattle.model.specs.Segments.{segments}
-use Rattle.model.specs.Blocks.{segmentAt, block, Totals, empty, totalsOf, add, totals, blockError}
+use Rattle.model.specs.Blocks.{segmentAt, block, Totals, empty, totalsOf, add, totals, rowValue, squared, errorWith, blockError}
 use Rattle.model.specs.Split.{errorOf}
 use Rattle.model.specs.Reductions.{IsReduction, reductionError}
 use Rattle.model.specs.Fitting.{overFrames}
@@ -32,8 +32,9 @@ use Rattle.theory.proofs.Refusals.{all-head, all-tail, all-at}
 use Rattle.theory.proofs.SlotLaws.{listFrom-of, length-listFrom}
 use Rattle.theory.proofs.Frames.{worth, segments-weigh, segmentation}
 use Rattle.theory.proofs.Count.{segment-count}
-use Rattle.theory.proofs.Blocks.{block-cons, block-empty, totals-append}
-use Rattle.theory.proofs.Nearest.{error-pos, row-least}
+use Rattle.theory.proofs.Blocks.{block-cons, totals-append}
+use Rattle.theory.proofs.Nearest.{squared-pos, error-pos}
+use Rattle.theory.proofs.RowValues.{greatest-le, row-le}
 use Rattle.theory.proofs.Table.{none≢some}
 use Rattle.theory.proofs.Converse.{listFrom-append, listFrom-member, member-listFrom}
 
@@ -186,6 +187,17 @@ frames-le kind rs =
 pub mul-le : {a b c d : ℕ} → a ≤ b → c ≤ d → a * c ≤ b * d
 mul-le {a} {b} {c} {d} p q = le-trans (mul-le-mul-left a q) (mul-le-mul-right d p)
 
+-- the squared difference of two values in range is at most the square of the greatest value
+squared-le : (v r : ℕ) → v ≤ mostValue → r ≤ mostValue → squared v (pos r) ≤ mostValue * mostValue
+squared-le v r small low =
+    let apart = squared-pos v r in
+    let most = mul-le small small in
+    let most′ = mul-le low low in
+    elim (decLe v r) [
+      | yes h ↦ (let less = mul-le-mul-left v h in omega arith)
+      | no h ↦ (let less = mul-le-mul-right r (le-of-lt (lt-of-not-le h)) in omega arith)
+    ]
+
 -- ---- measured segments
 
 -- the segments of a log whose questions are passed are measured
@@ -221,11 +233,26 @@ unfolding totals empty add totalsOf sumOf
 frames-of [] = refl
 frames-of (s ∷ b) = ap (λ (n : ℕ). spanLength s + n) (frames-of b)
 
+-- the error of a row value in range is, for each frame of the block, at most that square
+error-in-range : (r : ℕ) → r ≤ mostValue → (b : List (Span ℕ)) → ((s : Span ℕ) → List·Memᴰ s b → s .value ≤ mostValue)
+    → errorWith (pos r) b ≤ mostValue * mostValue * (totals b) .frames
+unfolding errorWith sumOf totals empty add totalsOf
+error-in-range r le [] h = zero-le
+error-in-range r le (s ∷ b) h =
+    let ih = error-in-range r le b (λ t m. h t (List·Memᴰ·tail m)) in
+    let here = mul-le-mul-left (spanLength s) (squared-le (s .value) r (h s (List·Memᴰ·head refl)) le) in
+    omega arith
+
 module _ (b : List (Span ℕ)) (few : sumOf spanLength b ≤ mostFrames) (low-values : (s : Span ℕ) → List·Memᴰ s b → s .value ≤ mostValue) where
   pub block-room : Room (totals b)
   unfolding totals empty add totalsOf
   block-room =
-      record { frames-le = omega (arith, frames-of b); sum-le = sums b low-values .0; squares-le = sums b low-values .1 }
+      record {
+        frames-le = omega (arith, frames-of b);
+        sum-le = sums b low-values .0;
+        squares-le = sums b low-values .1;
+        greatest-le = greatest-le mostValue b low-values;
+      }
     where
       sums : (l : List (Span ℕ)) → ((s : Span ℕ) → List·Memᴰ s l → s .value ≤ mostValue)
           → ((totals l) .sum ≤ mostValue * (totals l) .frames)
@@ -251,28 +278,19 @@ block-append h j i n le le′ =
     let here : j + (i - j) ≡ i = omega arith in
     rw size (rw here at (listFrom-append h j (i - j) (n - i)))
 
-add-nothing : (t : Totals) → add t (totals []) ≡ t
-unfolding add totals empty
-add-nothing t = λ i. record { frames = add-zero (t .frames) i; sum = add-zero (t .sum) i; squares = add-zero (t .squares) i }
-
 -- a block with one more segment in front
 pub totals-cons : (h : ℕ → Span ℕ) (j i : ℕ) → j < i
     → totals (block h j i) ≡ add (totalsOf (spanLength (h j)) ((h j) .value)) (totals (block h (suc j) i))
 unfolding totals
 totals-cons h j i lt = rw (block-cons h j i lt)
 
--- a block with one more segment at its end
-pub totals-snoc : (h : ℕ → Span ℕ) (j i : ℕ) → j ≤ i
-    → totals (block h j (suc i)) ≡ add (totals (block h j i)) (totalsOf (spanLength (h i)) ((h i) .value))
-totals-snoc h j i le =
-    ap totals (block-append h j i (suc i) le (omega arith))
-    ∙ totals-append (block h j i) (block h i (suc i)) ∙ ap (add (totals (block h j i))) (one h i)
-  where
-    one : (h : ℕ → Span ℕ) (i : ℕ) → totals (block h i (suc i)) ≡ totalsOf (spanLength (h i)) ((h i) .value)
-    one h i =
-        totals-cons h i (suc i) (omega arith)
-        ∙ ap (λ (b : List (Span ℕ)). add (totalsOf (spanLength (h i)) ((h i) .value)) (totals b)) (block-empty h (suc i))
-        ∙ add-nothing (totalsOf (spanLength (h i)) ((h i) .value))
+-- the frames of neighbouring blocks add
+frames-split : (h : ℕ → Span ℕ) (j i : ℕ) → j ≤ i
+    → (totals (block h 0 i)) .frames ≡ (totals (block h 0 j)) .frames + (totals (block h j i)) .frames
+unfolding add
+frames-split h j i le =
+    ap (λ (b : List (Span ℕ)). (totals b) .frames) (block-append h 0 j i zero-le le)
+    ∙ ap (λ (t : Totals). t .frames) (totals-append (block h 0 j) (block h j i))
 
 module _ (h : ℕ → Span ℕ) (n : ℕ) (ok : Measured (listFrom 0 n h)) where
   part-le : (w : Span ℕ → ℕ) (j i : ℕ) → j ≤ i → i ≤ n → sumOf w (block h j i) ≤ sumOf w (block h 0 n)
@@ -285,74 +303,53 @@ module _ (h : ℕ → Span ℕ) (n : ℕ) (ok : Measured (listFrom 0 n h)) where
   unfolding block
   whole i = rw sub-zero
 
-  -- every block of measured segments has room
-  pub measured-block : (j i : ℕ) → j ≤ i → i ≤ n → Block (totals (block h j i))
-  unfolding block
-  measured-block j i le le′ =
-      block-ok (block h j i)
-      (omega (arith, part-le spanLength j i le le′, ap (sumOf spanLength) (whole n), ok .frames))
-      (λ s m. low s (member-listFrom h j (i - j) s m))
-    where
-      low : (s : Span ℕ) → (x : ℕ) × (j ≤ x) × (x < j + (i - j)) × (s ≡ h x) → s .value ≤ mostValue
-      low s (x, ge, lt, e) =
-          rw e (ok .low-values (h x) (listFrom-member h 0 n x zero-le (omega arith)))
+  -- every block of measured segments has room, and for each of its frames its error is at most the square of the greatest value
+  module _ (j i : ℕ) (le : j ≤ i) (le′ : i ≤ n) where
+    few-frames : sumOf spanLength (block h j i) ≤ mostFrames
+    few-frames = omega (arith, part-le spanLength j i le le′, ap (sumOf spanLength) (whole n), ok .frames)
 
-  -- the error of a block is at most its squares
-  pub error-le : (j i : ℕ) → blockError (block h j i) ≤ (totals (block h j i)) .squares
-  error-le j i =
-      let zero-row = row-least (block h j i) (pos 0) in
-      omega (arith, error-pos 0 (block h j i))
+    low : (s : Span ℕ) → List·Memᴰ s (block h j i) → s .value ≤ mostValue
+    unfolding block
+    low s m =
+        let (x, ge, lt, e) = member-listFrom h j (i - j) s m in
+        rw e (ok .low-values (h x) (listFrom-member h 0 n x zero-le (omega arith)))
 
-  -- the squares of neighbouring blocks add
-  pub squares-split : (j i : ℕ) → j ≤ i
-      → (totals (block h 0 i)) .squares ≡ (totals (block h 0 j)) .squares + (totals (block h j i)) .squares
-  unfolding add
-  squares-split j i le =
-      ap (λ (b : List (Span ℕ)). (totals b) .squares) (block-append h 0 j i zero-le le)
-      ∙ ap (λ (t : Totals). t .squares) (totals-append (block h 0 j) (block h j i))
+    pub measured-block : Block (totals (block h j i))
+    measured-block = block-ok (block h j i) few-frames low
 
-  pub squares-most : (i : ℕ) → i ≤ n → (totals (block h 0 i)) .squares ≤ mostError
-  squares-most i le = let room = measured-block 0 i zero-le le .room in omega arith
+    pub error-le : (kind : ℕ) → blockError kind (block h j i) ≤ mostValue * mostValue * (totals (block h j i)) .frames
+    unfolding blockError
+    error-le kind =
+        error-in-range (rowValue kind (block h j i)) (row-le kind mostValue (block h j i) low) (block h j i) low
 
-  -- the first i of measured segments are measured
-  pub measured-prefix : (i : ℕ) → i ≤ n → Measured (listFrom 0 i h)
-  measured-prefix i le =
-      record {
-        few = omega (arith, ok .few, length-listFrom 0 n h, length-listFrom 0 i h);
-        proper = λ s m. ok .proper s (within s (member-listFrom h 0 i s m));
-        low-values = λ s m. ok .low-values s (within s (member-listFrom h 0 i s m));
-        frames =
-            omega (
-              arith,
-              part-le spanLength 0 i zero-le le,
-              ap (sumOf spanLength) (whole i),
-              ap (sumOf spanLength) (whole n),
-              ok .frames,
-            );
-      }
-    where
-      within : (s : Span ℕ) → (x : ℕ) × (0 ≤ x) × (x < 0 + i) × (s ≡ h x) → List·Memᴰ s (listFrom 0 n h)
-      within s (x, ge, lt, e) = rw e (listFrom-member h 0 n x zero-le (omega arith))
-
--- the error of any reduction of the first segments
-module _ (segs : List (Span ℕ)) (ok : Measured segs) where
+-- the error of any block, and of any reduction of the first segments
+module _ (kind : ℕ) (segs : List (Span ℕ)) (ok : Measured segs) where
   listed : Measured (listFrom 0 (length segs) (segmentAt segs))
   listed = rw (by-number segs) ok
 
-  squares-le : (low : ℕ → ℕ) (i : ℕ) (cuts : List ℕ) → IsReduction low i cuts
-      → reductionError (errorOf segs) i cuts ≤ (totals (block (segmentAt segs) 0 i)) .squares
+  pub error-range : (j i : ℕ) → j ≤ i → i ≤ length segs → errorOf kind segs j i ≤ mostError
+  unfolding errorOf
+  error-range j i le le′ =
+      let room = measured-block (segmentAt segs) (length segs) listed j i le le′ .room in
+      let here = error-le (segmentAt segs) (length segs) listed j i le le′ kind in
+      omega arith
+
+  frames-error-le : (low : ℕ → ℕ) (i : ℕ) (cuts : List ℕ) → i ≤ length segs → IsReduction low i cuts
+      → reductionError (errorOf kind segs) i cuts ≤ mostValue * mostValue * (totals (block (segmentAt segs) 0 i)) .frames
   unfolding reductionError errorOf
-  squares-le low i [] red = zero-le
-  squares-le low i (j ∷ js) red =
-      let ih = squares-le low j js (red .2) in
-      let parts = squares-split (segmentAt segs) (length segs) listed j i (le-of-lt (red .0)) in
-      let here = error-le (segmentAt segs) (length segs) listed j i in
+  frames-error-le low i [] le red = zero-le
+  frames-error-le low i (j ∷ js) le red =
+      let below = red .0 in
+      let ih = frames-error-le low j js (omega arith) (red .2) in
+      let parts = frames-split (segmentAt segs) j i (le-of-lt below) in
+      let here = error-le (segmentAt segs) (length segs) listed j i (le-of-lt below) le kind in
       omega arith
 
   pub reduction-error-le : (low : ℕ → ℕ) (i : ℕ) (cuts : List ℕ) → i ≤ length segs → IsReduction low i cuts
-      → reductionError (errorOf segs) i cuts ≤ mostError
+      → reductionError (errorOf kind segs) i cuts ≤ mostError
   reduction-error-le low i cuts le red =
-      le-trans (squares-le low i cuts red) (squares-most (segmentAt segs) (length segs) listed i le)
+      let room = measured-block (segmentAt segs) (length segs) listed 0 i zero-le le .room in
+      omega (arith, frames-error-le low i cuts le red)
 
 -- that bound is below 2^53, and 1,000 times it below 2^64
 pub most-error : (mostError < 2 ^ 53) × (mostError * 1000 < 2 ^ 64)

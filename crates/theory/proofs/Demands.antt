@@ -1,7 +1,7 @@
 -- The demands, proved. What each says stands in `specs/Demands.antt` of the crate `model`. Assumes nothing.
 use Prim.Native.Nat.{ℕ, _≤_}
 use mathlib.Core.Bool.{true}
-use mathlib.Core.List.{List, [], _∷_, _++_, List·Memᴰ}
+use mathlib.Core.List.{List, [], _∷_, _++_, map, List·Memᴰ}
 use mathlib.Core.Option.{Option, none, some}
 use mathlib.Core.Path.{_≡_, refl, sym, ap, _∙_, subst}
 use native.Mathlib.Nat.{le-refl}
@@ -9,23 +9,26 @@ use native.Mathlib.Omega.{arith}
 use lib.ListN.{length, drop}
 use borrow.Author.Tests.{leb-true}
 use Rattle.model.specs.Spans.{Span}
-use Rattle.model.specs.Log.{records}
+use Rattle.model.specs.Log.{records, greatestKind, value}
 use Rattle.model.specs.Segments.{segments}
 use Rattle.model.specs.Blocks.{segmentAt}
-use Rattle.model.specs.Split.{mostRows, countFor, reduced, reducedTo, gapBelow}
+use Rattle.model.specs.Split.{mostRows, countFor, Reduced, reduced, reducedTo, gapBelow}
 use Rattle.model.specs.Reductions.{IsReduction}
 use Rattle.model.specs.Slot.{slotLength, slotBytes}
-use Rattle.model.specs.Questions.{Question, Outcome, accepted, ask, outcome, lent, boundKnown, logQuestions, orderQuestions, queryQuestions, enoughRows}
-use Rattle.model.specs.Calls.{Counts, logSegments, answerOf, countsOf, queryOutcome, querySlot}
+use Rattle.model.specs.Questions.{Question, Outcome, accepted, ask, outcome, lent, kindKnown, boundKnown, logQuestions, orderQuestions, queryQuestions, enoughRows}
+use Rattle.model.specs.Calls.{Counts, logSegments, answerOf, countsOf, queryOutcome, querySlot, readRows}
 use Rattle.model.specs.Calls.{cutsWeighed, queryWeighed, boundOf, letterQuestions, letterOutcome, letterSlot, letterWeighed}
-use Rattle.model.specs.Demands.{AllPass, Demand1, Demand2, Demand3, Cut, Reduces, Storable, Reads, BestSlot}
+use Rattle.model.specs.Guarantee.{Choices, BestRows}
+use Rattle.model.specs.Fitting.{FitsFor}
+use Rattle.model.specs.Demands.{AllPass, Demand1, Demand2, Demand3, Cut, Reduces, Storable, Reads, whole, listsFor, BestSlot, NeverShort}
 use Rattle.model.specs.Demands.{QueryPromise, LetterPromise}
 use Rattle.model.specs.declared.Bound.{Bound}
 use Rattle.model.specs.declared.Bound.the-variants.{Rows, Share}
 use Rattle.model.specs.declared.Query.{Query}
 use Rattle.theory.proofs.Refusals.{all-head, all-tail, all-lent, lent-same, outcome-accepted, accepted-query, too-few}
 use Rattle.theory.proofs.Refusals as refusals
-use Rattle.theory.proofs.Tests.{cases}
+use Rattle.theory.proofs.Tests.{cases, is-some}
+use Rattle.theory.proofs.RowValues.{row-between, row-above}
 use Rattle.theory.proofs.SlotLaws.{round-trip, layout}
 use Rattle.theory.proofs.Frames.{segmentation}
 use Rattle.theory.proofs.Count.{segment-count}
@@ -33,7 +36,8 @@ use Rattle.theory.proofs.Conserved.{conserved}
 use Rattle.theory.proofs.Merging.{merging}
 use Rattle.theory.proofs.Bounds.{sound-records, mean, logs-measured, reduction-error-le, most-error}
 use Rattle.theory.proofs.Stored.{rows-length, rows-known, rows-sorted}
-use Rattle.theory.proofs.Answer.{limitOf, answer-reduces, best-rows, some-count, count-le, too-few-rows, only-least}
+use Rattle.theory.proofs.Guarantee.{limitOf}
+use Rattle.theory.proofs.Answer.{answer-reduces, best-rows, count-le, too-few-rows, only-least, never-short}
 use Rattle.theory.proofs.Empty.{nothing-fits, empty-log}
 
 -- Demand 1
@@ -42,48 +46,91 @@ demand1 = refusals.demand1
 
 -- ---- what an accepted query answers
 
-pub reduced-to : (bound : Bound) (segs : List (Span ℕ)) (k : ℕ) → countFor bound segs ≡ some k
-    → reduced bound segs ≡ some (reducedTo bound segs k)
+pub reduced-to : (kind : ℕ) (bound : Bound) (segs : List (Span ℕ)) (k : ℕ) → countFor kind bound segs ≡ some k
+    → reduced kind bound segs ≡ some (reducedTo kind bound segs k)
 unfolding reduced
-reduced-to bound segs k h = rw (h, reduced)
+reduced-to kind bound segs k h = rw (h, reduced)
 
-answer-is : (q : Query) (log : List ℕ) (k : ℕ) → countFor (q .bound) (logSegments (q .kind) log) ≡ some k
-    → answerOf q log ≡ reducedTo (q .bound) (logSegments (q .kind) log) k
+answer-is : (q : Query) (log : List ℕ) (k : ℕ) → countFor (q .kind) (q .bound) (logSegments (q .kind) log) ≡ some k
+    → answerOf q log ≡ reducedTo (q .kind) (q .bound) (logSegments (q .kind) log) k
 unfolding answerOf
-answer-is q log k h = rw (reduced-to (q .bound) (logSegments (q .kind) log) k h)
+answer-is q log k h = rw (reduced-to (q .kind) (q .bound) (logSegments (q .kind) log) k h)
 
 -- the answer to a query that has enough rows: its number of rows and its cuts
 record Answered (q : Query) (log : List ℕ) : Type 0 where
   rows : ℕ
-  counted : countFor (q .bound) (logSegments (q .kind) log) ≡ some rows
+  counted : countFor (q .kind) (q .bound) (logSegments (q .kind) log) ≡ some rows
   cuts : List ℕ
-  cut : Cut (logSegments (q .kind) log) (answerOf q log) cuts
-  reduces : Reduces (q .bound) (logSegments (q .kind) log) cuts
+  cut : Cut (q .kind) (logSegments (q .kind) log) (answerOf q log) cuts
+  reduces : Reduces (q .kind) (q .bound) (logSegments (q .kind) log) cuts
   count : length cuts ≡ rows
 
 answered : (q : Query) (log : List ℕ) → enoughRows q log ≡ true → Answered q log
 unfolding enoughRows logSegments
 answered q log enough =
-    let (k, h) = some-count (q .kind) (records log) (q .bound) enough in
-    let (cuts, cut, reduces, size) = answer-reduces (segments (q .kind) (records log)) (q .bound) k h in
+    let (k, h) = is-some (countFor (q .kind) (q .bound) (segments (q .kind) (records log))) enough in
+    let (cuts, cut, reduces, size) = answer-reduces (q .kind) (segments (q .kind) (records log)) (q .bound) k h in
     record {
       rows = k;
       counted = h;
       cuts = cuts;
-      cut = subst (λ a. Cut (logSegments (q .kind) log) a cuts) (sym (answer-is q log k h)) cut;
+      cut = subst (λ a. Cut (q .kind) (logSegments (q .kind) log) a cuts) (sym (answer-is q log k h)) cut;
       reduces = reduces;
       count = size;
     }
 
-is-reduction : (bound : Bound) (segs : List (Span ℕ)) (cuts : List ℕ) → Reduces bound segs cuts
+is-reduction : (kind : ℕ) (bound : Bound) (segs : List (Span ℕ)) (cuts : List ℕ) → Reduces kind bound segs cuts
     → IsReduction (gapBelow segs) (length segs) cuts
-is-reduction (Rows c) segs cuts b = b .isReduction
-is-reduction (Share p) segs cuts b = b .isReduction
+is-reduction kind (Rows c) segs cuts b = b .isReduction
+is-reduction kind (Share p) segs cuts b = b .isReduction
+
+-- what is best fits
+fitting : {A : Type 0} (choices : Choices A) (bound : Bound) (error : ℕ) (a : A) → BestRows choices bound error a → choices .fits a
+fitting choices (Rows c) error a b = b .fits
+fitting choices (Share p) error a b = b .fits
 
 limit-le : (bound : Bound) → boundKnown bound ≡ true → limitOf bound ≤ mostRows
 unfolding boundKnown
 limit-le (Rows c) h = leb-true c mostRows h
 limit-le (Share p) h = le-refl mostRows
+
+-- ---- rows of kind 3
+
+-- rows that are best never fall short
+pub best-never-short : (q : Query) (log : List ℕ) (error : ℕ) (rows : List (Span ℕ))
+    → BestRows (listsFor (q .kind) log) (q .bound) error (map whole rows) → NeverShort q log rows
+best-never-short q log error rows best is =
+    never-short (value (q .kind) (records log)) rows
+    (subst (λ kind. FitsFor kind (value (q .kind) (records log)) (map whole rows)) is
+    (fitting (listsFor (q .kind) log) (q .bound) error (map whole rows) best))
+
+slot-never-short : (q : Query) (log slot : List ℕ) → BestSlot q log slot → NeverShort q log (readRows slot)
+slot-never-short q log slot b = rw (b .reads .body) (best-never-short q log (b .error) (b .rows) (b .best))
+
+-- ---- what a slot can hold
+
+-- the rows and error of a reduction of a log's segments, by whichever kind's rule for row values
+cut-storable : (rule kind : ℕ) (log cuts : List ℕ) (a : Reduced) → kindKnown kind ≡ true → AllPass (logQuestions log)
+    → Cut rule (logSegments kind log) a cuts
+    → IsReduction (gapBelow (logSegments kind log)) (length (logSegments kind log)) cuts → length cuts ≤ mostRows
+    → Storable kind (a .error) (a .rows)
+unfolding logSegments
+cut-storable rule kind log cuts a known logged cut is few-cuts =
+    let segs : List (Span ℕ) = logSegments kind log in
+    let (few, small) = sound-records log logged in
+    let loads : (r : Span ℕ) → List·Memᴰ r (records log) → r .value ≤ 1000 = λ r m. small r m .2 in
+    let size = rows-length rule (segmentAt segs) (length segs) cuts in
+    record {
+      known = known;
+      error64 =
+          rw (cut .error)
+          (let le = reduction-error-le rule segs (logs-measured kind log logged) (gapBelow segs) (length segs) cuts (le-refl _) is in
+          let most = most-error .0 in
+          omega arith);
+      count = rw (cut .rows) (omega arith);
+      rowsKnown = rw (cut .rows) (rows-known rule kind (records log) few loads cuts is);
+      sorted = rw (cut .rows) (rows-sorted rule kind (records log) few loads cuts is);
+    }
 
 -- ---- what the slot of an accepted query holds
 
@@ -104,24 +151,11 @@ module _ (q : Query) (log slot : List ℕ) (counts : Counts) (ok : queryOutcome 
   storable =
       let (room, order, enough, same) = accepted-query q log (length slot) counts ok in
       let logged : AllPass (logQuestions log) = all-tail _ _ (all-tail _ _ order) in
-      let (few, small) = sound-records log logged in
-      let loads : (r : Span ℕ) → List·Memᴰ r (records log) → r .value ≤ 1000 = λ r m. small r m .2 in
-      let is : IsReduction (gapBelow segs) (length segs) (a .cuts) = is-reduction (q .bound) segs (a .cuts) (a .reduces) in
-      let size = rows-length (segmentAt segs) (length segs) (a .cuts) in
       let limit = limit-le (q .bound) (all-head _ _ (all-tail _ _ order)) in
       let at-most = count-le (q .kind) (records log) (q .bound) (a .rows) (a .counted) in
       let counted = a .count in
-      record {
-        known = all-head _ _ order;
-        error64 =
-            rw (a .cut .error)
-            (let le = reduction-error-le segs (logs-measured (q .kind) log logged) (gapBelow segs) (length segs) (a .cuts) (le-refl _) is in
-            let most = most-error .0 in
-            omega arith);
-        count = rw (a .cut .rows) (omega arith);
-        rowsKnown = rw (a .cut .rows) (rows-known (q .kind) (records log) few loads (a .cuts) is);
-        sorted = rw (a .cut .rows) (rows-sorted (q .kind) (records log) few loads (a .cuts) is);
-      }
+      cut-storable (q .kind) (q .kind) log (a .cuts) (answerOf q log) (all-head _ _ order) logged (a .cut)
+      (is-reduction (q .kind) (q .bound) segs (a .cuts) (a .reduces)) (omega arith)
 
   pub reads-back : Reads (querySlot q log slot) (q .kind) ((answerOf q log) .error) ((answerOf q log) .rows)
   reads-back =
@@ -149,6 +183,8 @@ demand2 =
       mean = mean;
       conserved = conserved;
       merging = λ kind log. merging (segmentAt (logSegments kind log)) (length (logSegments kind log));
+      between = row-between;
+      greatest = λ b s m. row-above greatestKind b s m refl;
       reduction = λ q log room counts ok.
           let (fits, order, enough, same) = accepted-query q log room counts ok in
           let found = answered q log enough in
@@ -156,6 +192,8 @@ demand2 =
       emptyLog = empty-log;
       written = reads-back;
       roundTrip = round-trip;
+      stillRead = λ rule kind log cuts rest r known logged cut is few.
+          round-trip kind (r .error) (r .rows) rest (cut-storable rule kind log cuts r known logged cut is few);
       layout = layout;
     }
 
@@ -165,6 +203,7 @@ unfolding enoughRows
 demand3 =
     record {
       best = best;
+      neverShort = λ q log slot counts ok. slot-never-short q log _ (best q log slot counts ok);
       tooFew = λ q log slot fits order.
           let (said, says) = too-few q log (length slot) order fits in
           let (refuses, none-fits) = too-few-rows (q .kind) (records log) (q .bound) in
@@ -190,6 +229,7 @@ query-promise q log slot says after answers holds =
     record {
       weighed = ap cutsWeighed answers ∙ weighed-asked (queryQuestions q log (length slot)) (countsOf (answerOf q log));
       best = λ counts e. rw holds (best q log slot counts (sym answers ∙ e));
+      neverShort = λ counts e. rw holds (slot-never-short q log _ (best q log slot counts (sym answers ∙ e)));
       tooFew = rw answers (demand3 .tooFew q log slot);
     }
 

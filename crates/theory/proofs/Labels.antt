@@ -68,7 +68,7 @@ module _ {A : Type 0} (g f : ℕ) where
       (λ b. rw (b, a) (label-goes-on rows none-ends once (rw b at k)))))
 
   -- a frame that some row contains has a label
-  labelled-frame : (rows : List (Span A)) → 1 ≤ hits rows g f → (z : A) × (valueIn rows g f ≡ some z)
+  pub labelled-frame : (rows : List (Span A)) → 1 ≤ hits rows g f → (z : A) × (valueIn rows g f ≡ some z)
   unfolding hits valueIn
   labelled-frame [] h = absurd (omega arith)
   labelled-frame (r ∷ rows) h =

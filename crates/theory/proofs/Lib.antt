@@ -9,6 +9,7 @@ pub mod Count
 pub mod Cost
 pub mod Blocks
 pub mod Nearest
+pub mod RowValues
 pub mod Table
 pub mod Choice
 pub mod Merging
@@ -20,11 +21,13 @@ pub mod Labels
 pub mod Cutting
 pub mod Bounds
 pub mod Stored
+pub mod Guarantee
 pub mod Answer
 pub mod Empty
 pub mod Demands
 pub mod Conserved
 pub mod Pages
 pub mod Refutations
+pub mod RefutedGreatest
 pub mod RefutedReductions
 pub mod RefutedCalls

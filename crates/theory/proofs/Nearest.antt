@@ -1,5 +1,5 @@
--- The row value: the nearest whole number to a block's mean, the lower one at a half, lies between the block's least and
--- greatest value, and no whole number, negative ones included, has a smaller squared error. Assumes nothing.
+-- The nearest whole number to a block's mean, the lower one at a half: it lies between the block's least and greatest value, and
+-- no whole number, negative ones included, has a smaller squared error. Assumes nothing.
 use Prim.Native.Nat.{ℕ, zero, suc, _+_, _-_, _*_, _%_, _≤_, _<_, zero-le}
 use mathlib.Core.List.{List, [], _∷_, List·Memᴰ, List·Memᴰ·head, List·Memᴰ·tail}
 use mathlib.Core.Logic.{_⊎_, inl, inr}
@@ -7,14 +7,13 @@ use mathlib.Core.Path.{_≡_, refl, ap}
 use native.Mathlib.Decide.{decLe}
 use native.Mathlib.Nat.{mul-le-mul-left, mul-le-mul-right, div-add-mod', mod-lt, lt-of-not-le}
 use native.Mathlib.Omega.{arith}
-use lib.Dec.{ltb, eqb}
+use lib.Dec.{ltb}
 use lib.IntN.{ℤ, pos, negsuc}
-use borrow.Author.Tests.{ltb-true, ltb-false, eqb-true}
+use borrow.Author.Tests.{ltb-true, ltb-false}
 use Rattle.model.specs.Common.{sumOf}
 use Rattle.model.specs.Spans.{Span, spanLength}
-use Rattle.model.specs.Blocks.{empty, totalsOf, add, totals, nearest, rowValue, squared, errorWith, blockError}
+use Rattle.model.specs.Blocks.{empty, totalsOf, add, totals, nearest, squared, errorWith}
 use Rattle.theory.proofs.Tests.{cases}
-use Rattle.theory.proofs.Cost.{Cost, costOf}
 
 -- ---- the squared difference, without subtraction
 
@@ -112,18 +111,20 @@ nearest-least sum frames r pos-frames =
             let h = mul-le-mul-left (suc d) (rw e at high) in
             rw e (omega arith)
 
--- a row value's error is least among all numbers, negative ones included
-row-least-pos : (b : List (Span ℕ)) (r : ℕ) → blockError b ≤ errorWith (pos r) b
-unfolding blockError rowValue
-row-least-pos b r =
+-- the nearest whole number's error is least among all numbers, negative ones included
+abbrev pub meanOf : List (Span ℕ) → ℕ
+meanOf b = nearest ((totals b) .sum) ((totals b) .frames)
+
+mean-least-pos : (b : List (Span ℕ)) (r : ℕ) → errorWith (pos (meanOf b)) b ≤ errorWith (pos r) b
+mean-least-pos b r =
     elim (decLe 1 ((totals b) .frames)) [
       | yes h ↦
-          (let here = error-pos (nearest ((totals b) .sum) ((totals b) .frames)) b in
+          (let here = error-pos (meanOf b) b in
           let there = error-pos r b in
           let less = nearest-least ((totals b) .sum) ((totals b) .frames) r h in
           omega arith)
       | no h ↦
-          (let here = void (omega arith) (nearest ((totals b) .sum) ((totals b) .frames)) in
+          (let here = void (omega arith) (meanOf b) in
           omega arith)
     ]
   where
@@ -133,17 +134,38 @@ row-least-pos b r =
         let here = rw (zeros .0, zeros .1, none) at (error-pos n b) in
         omega arith
 
-pub row-least : (b : List (Span ℕ)) (z : ℤ) → blockError b ≤ errorWith z b
-row-least b (pos r) = row-least-pos b r
-row-least b (negsuc r) =
-    let zero-row = row-least-pos b 0 in
+pub mean-least : (b : List (Span ℕ)) (z : ℤ) → errorWith (pos (meanOf b)) b ≤ errorWith z b
+mean-least b (pos r) = mean-least-pos b r
+mean-least b (negsuc r) =
+    let zero-row = mean-least-pos b 0 in
     let squares-row = error-pos 0 b in
     let neg = error-neg r b in
     omega arith
 
--- the row value lies between a lower and an upper bound of the block's values
+-- the nearest whole number to a mean is no more than what the mean is at most, and no less than what it is at least
+pub nearest-le : (hi sum frames : ℕ) → sum ≤ hi * frames → nearest sum frames ≤ hi
+unfolding nearest
+nearest-le hi sum zero le =
+    let nothing : sum ≡ 0 = omega arith in
+    rw nothing zero-le
+nearest-le hi sum (suc frames) le =
+    by (nearest sum (suc frames)) (nearest-high sum (suc frames) (omega arith)) (decLe (nearest sum (suc frames)) hi)
+  where
+    by : (n : ℕ) → 2 * (n * suc frames) < 2 * sum + suc frames → Dec (n ≤ hi) → n ≤ hi
+    by n high (yes q) = q
+    by n high (no q) = let far = mul-le-mul-right (suc frames) (lt-of-not-le q) in absurd (omega arith)
+
+pub le-nearest : (lo sum frames : ℕ) → 0 < frames → lo * frames ≤ sum → lo ≤ nearest sum frames
+le-nearest lo sum frames pos-frames le =
+    by (nearest sum frames) (nearest-low sum frames pos-frames) (decLe lo (nearest sum frames))
+  where
+    by : (n : ℕ) → 2 * sum ≤ (2 * n + 1) * frames → Dec (lo ≤ n) → lo ≤ n
+    by n low (yes q) = q
+    by n low (no q) = let far = mul-le-mul-right frames (lt-of-not-le q) in absurd (omega arith)
+
+-- the sum of a block's values lies between its bounds
 module _ (lo hi : ℕ) where
-  sum-between : (b : List (Span ℕ)) → ((s : Span ℕ) → List·Memᴰ s b → (lo ≤ s .value) × (s .value ≤ hi))
+  pub sum-between : (b : List (Span ℕ)) → ((s : Span ℕ) → List·Memᴰ s b → (lo ≤ s .value) × (s .value ≤ hi))
       → (lo * (totals b) .frames ≤ (totals b) .sum) × ((totals b) .sum ≤ hi * (totals b) .frames)
   unfolding totals empty add totalsOf
   sum-between [] h = (omega arith, omega arith)
@@ -153,34 +175,3 @@ module _ (lo hi : ℕ) where
       let low = mul-le-mul-left (spanLength s) (here .0) in
       let high = mul-le-mul-left (spanLength s) (here .1) in
       (omega arith, omega arith)
-
-  pub row-between : (b : List (Span ℕ)) → 0 < (totals b) .frames
-      → ((s : Span ℕ) → List·Memᴰ s b → (lo ≤ s .value) × (s .value ≤ hi)) → (lo ≤ rowValue b) × (rowValue b ≤ hi)
-  unfolding rowValue
-  row-between b some-frames h =
-      by (nearest ((totals b) .sum) ((totals b) .frames)) ((totals b) .sum) ((totals b) .frames) some-frames
-      (nearest-low _ _ some-frames) (nearest-high _ _ some-frames) (sum-between b h .0) (sum-between b h .1)
-    where
-      by : (n sum frames : ℕ) → 0 < frames → 2 * sum ≤ (2 * n + 1) * frames → 2 * (n * frames) < 2 * sum + frames
-          → lo * frames ≤ sum → sum ≤ hi * frames → (lo ≤ n) × (n ≤ hi)
-      by n sum frames pos-frames low high at-least at-most = (
-        elim (decLe lo n)
-            [ yes q ↦ q | no q ↦ (let far = mul-le-mul-right frames (lt-of-not-le q) in absurd (omega arith)) ],
-        elim (decLe n hi)
-            [ yes q ↦ q | no q ↦ (let far = mul-le-mul-right frames (lt-of-not-le q) in absurd (omega arith)) ],
-      )
-
--- ---- the cost of the tool's rows: squared differences, every whole number allowed
-
-unfoldable pub squares : Cost ℕ ℤ
-unfolding costOf errorWith blockError
-squares =
-    record {
-      same = eqb;
-      same-eq = eqb-true;
-      cost = squared;
-      ok = λ v z. Unit {0};
-      best = λ b. pos (rowValue b);
-      best-ok = λ b s m. tt;
-      best-least = λ b z h. row-least b z;
-    }

@@ -20,14 +20,15 @@ use Rattle.model.specs.Slot.{slotLength, rowBytes, rowsBytes, usedBytes, slotBy
 use Rattle.model.specs.Questions.{refused, accepted, ask, askRoom, outcome, each, marked, kindKnown, boundKnown, groupKnown, mostRecords, spanQuestions, recordQuestions, logQuestions, orderQuestions}
 use Rattle.model.specs.Questions.{lent, follows, inOrder, rowKnown, rowQuestions, zeros, tailZero, slotQuestions}
 use Rattle.model.specs.Calls.{Counts, logSegments, answerOf, countsOf, queryOutcome, cutsWeighed, queryWeighed, boundOf, letterWeighed, Header, readOutcome, readRows}
-use Rattle.model.specs.Fitting.{hits, due, Fits, frameCost, overFrames, squaredError, LeastOfFewest, WithinShare, Exceeds}
-use Rattle.model.specs.Demands.{AllPass, Reads, BestSlot, QueryPromise, LetterPromise, whole, BestOfLimit, BestOfShare, BestRows, NoRows, SaysTooFew}
+use Rattle.model.specs.Guarantee.{Choices, LeastOfFewest, WithinShare, Exceeds, BestOfLimit, BestOfShare, BestRows, NoRows}
+use Rattle.model.specs.Fitting.{hits, due, FitsFor, frameCost, overFrames, squaredError, rowLists}
+use Rattle.model.specs.Demands.{AllPass, Reads, BestSlot, QueryPromise, LetterPromise, whole, SaysTooFew}
 use Rattle.model.specs.declared.Bound.{Bound}
 use Rattle.model.specs.declared.Bound.the-variants.{Rows, Share}
 use Rattle.model.proofs.Page.{horizon, value-none}
 use Rattle.model.proofs.Cases.{span, log-G, segments-G, rows-G, bytes, query, worked-cases}
 use Rattle.theory.proofs.Refusals.{outcome-accepted, accepted≢refused, accepted-inj}
-use Rattle.theory.proofs.Answer.{one-least}
+use Rattle.theory.proofs.Guarantee.{one-least}
 use Rattle.theory.proofs.Pages.{allFrom, onPage, exactOn, page-fits, page-error, value-on-page}
 use Rattle.theory.proofs.Demands.{demand3, query-promise}
 
@@ -39,7 +40,7 @@ log-tie = span 0 0 0 0 ∷ span 0 1 1 1 ∷ span 0 2 2 0 ∷ []
 
 -- the list fits the log, of kind 0, with this squared error
 abbrev Fit : List (Span ℕ) → ℕ → List (Span ℕ) → Type 0
-Fit log error rows = Fits (value 0 log) (map whole rows) × (squaredError (value 0 log) (map whole rows) ≡ error)
+Fit log error rows = FitsFor 0 (value 0 log) (map whole rows) × (squaredError (value 0 log) (map whole rows) ≡ error)
 
 -- as a page shows
 abbrev OnPage : List (Span ℕ) → ℕ → List (Span ℕ) → Type 0
@@ -50,7 +51,10 @@ OnPage log error rows =
 
 fit : (log : List (Span ℕ)) (error : ℕ) (rows : List (Span ℕ)) → OnPage log error rows → Fit log error rows
 fit log error rows (short, on, exact, sums) = (
-  page-fits (value 0 log) groupCount (horizon log) (value-on-page 0 log) (map whole rows) on exact,
+  record {
+    covers = page-fits (value 0 log) groupCount (horizon log) (value-on-page 0 log) (map whole rows) on exact;
+    nowhereBelow = λ is. absurd (omega arith);
+  },
   page-error 0 log (map whole rows) short ∙ sums,
 )
 
@@ -77,6 +81,13 @@ pages = (
 abbrev val-G : ℕ → ℕ → Option ℕ
 val-G = value 0 log-G
 
+-- the lists of rows that fit G, by a kind
+abbrev pub lists-of : ℕ → Choices (List (Span ℤ))
+lists-of kind = rowLists kind (value kind log-G)
+
+abbrev lists-G : Choices (List (Span ℤ))
+lists-G = lists-of 0
+
 runs-fit : Fit log-G 40087 runs-G
 runs-fit = fit log-G 40087 runs-G (pages .0)
 
@@ -92,104 +103,122 @@ one-fit = fit log-tie 1 (span 0 0 2 0 ∷ []) (pages .3)
 -- ---- demand 3 of log G
 
 -- the bytes of G are read to its records
-decoded : records (bytes log-G) ≡ log-G
+pub decoded : records (bytes log-G) ≡ log-G
 unfolding records recordCount recordLength listFrom recordAt numberAt recordBytes bytesOf
 decoded = refl
 
--- a query of G, of kind 0, is in order
-pub in-order : (bound : Bound) → boundKnown bound ≡ true → AllPass (orderQuestions (query 0 bound) (bytes log-G))
-unfolding orderQuestions logQuestions recordCount recordLength mostRecords each recordQuestions spanQuestions marked groupKnown kindKnown recordAt numberAt recordBytes bytesOf ask outcome
-in-order bound known =
-    outcome-accepted (orderQuestions (query 0 bound) (bytes log-G)) (tt {0}) (tt {0}) (rw known) .0
+module _ (kind : ℕ) where
+  -- a query of G is in order
+  pub in-order : (bound : Bound) → kindKnown kind ≡ true → boundKnown bound ≡ true
+      → AllPass (orderQuestions (query kind bound) (bytes log-G))
+  unfolding orderQuestions logQuestions recordCount recordLength mostRecords each recordQuestions spanQuestions marked groupKnown recordAt numberAt recordBytes bytesOf ask outcome
+  in-order bound known in-range =
+      outcome-accepted (orderQuestions (query kind bound) (bytes log-G)) (tt {0}) (tt {0}) (rw (known, in-range)) .0
 
--- what demand 3 says of its 'too few rows'
-says-G : (bound : Bound) → boundKnown bound ≡ true
-    → SaysTooFew (query 0 bound) (bytes log-G) (queryOutcome (query 0 bound) (bytes log-G) 768)
-unfolding slotLength
-says-G bound known = demand3 .tooFew (query 0 bound) (bytes log-G) (replicate 768 0) (omega arith) (in-order bound known)
+  -- what demand 3 says of its 'too few rows'
+  says-G : (bound : Bound) → kindKnown kind ≡ true → boundKnown bound ≡ true
+      → SaysTooFew (query kind bound) (bytes log-G) (queryOutcome (query kind bound) (bytes log-G) 768)
+  unfolding slotLength
+  says-G bound known in-range =
+      demand3 .tooFew (query kind bound) (bytes log-G) (replicate 768 0) (omega arith) (in-order bound known in-range)
 
--- and of an accepted query's rows
-best-G : (bound : Bound) (a : Reduced) → queryOutcome (query 0 bound) (bytes log-G) 768 ≡ accepted (countsOf a)
-    → reduced bound (logSegments 0 (bytes log-G)) ≡ some a → BestRows bound val-G (a .error) (map whole (a .rows))
-unfolding answerOf
-best-G bound a ok is =
-    let b = demand3 .best (query 0 bound) (bytes log-G) (replicate 768 0) (countsOf a) ok in
-    let answer : answerOf (query 0 bound) (bytes log-G) ≡ a = rw is in
-    let error : b .error ≡ a .error = b .answerError ∙ ap (λ (r : Reduced). r .error) answer in
-    let rows : b .rows ≡ a .rows = b .answerRows ∙ ap (λ (r : Reduced). r .rows) answer in
-    subst (λ rs. BestRows bound (value 0 rs) (a .error) (map whole (a .rows))) decoded (rw (error, rows) at (b .best))
+  -- and of an accepted query's rows
+  pub best-G : (bound : Bound) (a : Reduced) → queryOutcome (query kind bound) (bytes log-G) 768 ≡ accepted (countsOf a)
+      → reduced kind bound (logSegments kind (bytes log-G)) ≡ some a
+      → BestRows (lists-of kind) bound (a .error) (map whole (a .rows))
+  unfolding answerOf
+  best-G bound a ok is =
+      let b = demand3 .best (query kind bound) (bytes log-G) (replicate 768 0) (countsOf a) ok in
+      let answer : answerOf (query kind bound) (bytes log-G) ≡ a = rw is in
+      let error : b .error ≡ a .error = b .answerError ∙ ap (λ (r : Reduced). r .error) answer in
+      let rows : b .rows ≡ a .rows = b .answerRows ∙ ap (λ (r : Reduced). r .rows) answer in
+      subst (λ rs. BestRows (rowLists kind (value kind rs)) bound (a .error) (map whole (a .rows))) decoded
+      (rw (error, rows) at (b .best))
 
--- no two rows fit
-two-never : NoRows (Rows 2) val-G
-unfolding boundKnown mostRows
-two-never = subst (λ rs. NoRows (Rows 2) (value 0 rs)) decoded (says-G (Rows 2) refl .0 (worked-cases .0 .1 .0 .1 .0))
+  -- no two rows fit
+  two-never : kindKnown kind ≡ true → queryOutcome (query kind (Rows 2)) (bytes log-G) 768 ≡ refused 10 0
+      → NoRows (lists-of kind) (Rows 2)
+  unfolding boundKnown mostRows
+  two-never known two =
+      subst (λ rs. NoRows (rowLists kind (value kind rs)) (Rows 2)) decoded (says-G (Rows 2) known refl .0 two)
+
+  -- so the least squared error of three rows is that of the fewest
+  pub least-of-three : (error : ℕ) (rows : List (Span ℕ)) → kindKnown kind ≡ true
+      → queryOutcome (query kind (Rows 2)) (bytes log-G) 768 ≡ refused 10 0
+      → BestOfLimit (lists-of kind) 3 error (map whole rows) → length (map whole rows) ≡ 3 → LeastOfFewest (lists-of kind) error
+  least-of-three error rows known two b three =
+      record {
+        choice = map whole rows;
+        fits = b .fits;
+        error = b .is;
+        fewest = λ other f.
+            elim (decLe 3 (length other)) [ yes h ↦ omega arith | no h ↦ absurd (two-never known two other f (omega arith)) ];
+        least = λ other f size. b .least other f (omega arith);
+      }
+
+-- the query of G with c = 2 is refused
+two-refused : queryOutcome (query 0 (Rows 2)) (bytes log-G) 768 ≡ refused 10 0
+two-refused = worked-cases .0 .1 .0 .1 .0
 
 -- three are no better than one for each run
-three-best : BestOfLimit val-G 3 40087 (map whole runs-G)
+three-best : BestOfLimit lists-G 3 40087 (map whole runs-G)
 three-best =
     let three = worked-cases .0 .1 .1 .0 .1 in
-    best-G (Rows 3) (record { rows = runs-G; error = 40087; weighed = 13 }) (three .0) (three .1)
+    best-G 0 (Rows 3) (record { rows = runs-G; error = 40087; weighed = 13 }) (three .0) (three .1)
 
 -- so the least squared error of the fewest rows is 40,087
-least-G : LeastOfFewest val-G 40087
-least-G =
-    record {
-      rows = map whole runs-G;
-      fits = runs-fit .0;
-      error = runs-fit .1;
-      fewest = λ other f.
-          elim (decLe 3 (length other)) [ yes h ↦ h | no h ↦ absurd (two-never other f (omega arith)) ];
-      least = λ other f size. three-best .least other f (omega arith);
-    }
+least-G : LeastOfFewest lists-G 40087
+unfolding kindKnown
+least-G = least-of-three 0 40087 runs-G refl two-refused three-best refl
 
 -- ---- lists that do not fit
 
 -- a covered frame left out: frame 0 of group 1 (exact)
-pub frame-left-out : Fits val-G (map whole (span 0 0 6 201 ∷ span 0 9 10 50 ∷ [])) → ⊥
+pub frame-left-out : FitsFor 0 val-G (map whole (span 0 0 6 201 ∷ span 0 9 10 50 ∷ [])) → ⊥
 unfolding hits due holds meets value meeting aggregated aggregate sum groupCount frameCount whole
-frame-left-out f = omega (arith, f .exact 1 0)
+frame-left-out f = omega (arith, f .covers .exact 1 0)
 
 -- a row across frames 7 and 8, which are not covered (exact)
-pub row-across-gap : Fits val-G (map whole (span 0 0 10 165 ∷ span 1 0 0 7 ∷ [])) → ⊥
+pub row-across-gap : FitsFor 0 val-G (map whole (span 0 0 10 165 ∷ span 1 0 0 7 ∷ [])) → ⊥
 unfolding hits due holds meets value meeting aggregated aggregate sum groupCount frameCount whole
-row-across-gap f = omega (arith, f .exact 0 7)
+row-across-gap f = omega (arith, f .covers .exact 0 7)
 
 -- a covered frame in two rows (exact)
-pub frame-twice : Fits val-G (map whole (span 0 0 6 201 ∷ span 0 6 6 210 ∷ span 0 9 10 50 ∷ span 1 0 0 7 ∷ [])) → ⊥
+pub frame-twice : FitsFor 0 val-G (map whole (span 0 0 6 201 ∷ span 0 6 6 210 ∷ span 0 9 10 50 ∷ span 1 0 0 7 ∷ [])) → ⊥
 unfolding hits due holds meets value meeting aggregated aggregate sum groupCount frameCount whole
-frame-twice f = omega (arith, f .exact 0 6)
+frame-twice f = omega (arith, f .covers .exact 0 6)
 
 -- a row where there is no frame: 65,536 has no value (exact)
-pub row-past-the-last-frame : Fits val-G (map whole (span 0 65536 65536 0 ∷ runs-G)) → ⊥
+pub row-past-the-last-frame : FitsFor 0 val-G (map whole (span 0 65536 65536 0 ∷ runs-G)) → ⊥
 unfolding hits due holds meets value meeting aggregated aggregate sum groupCount frameCount whole
-row-past-the-last-frame f = omega (arith, f .exact 0 65536)
+row-past-the-last-frame f = omega (arith, f .covers .exact 0 65536)
 
 -- a row that ends before it begins, which contains no frame (ordered)
-pub row-backwards : Fits val-G (map whole (span 0 5 4 0 ∷ runs-G)) → ⊥
+pub row-backwards : FitsFor 0 val-G (map whole (span 0 5 4 0 ∷ runs-G)) → ⊥
 unfolding whole
-row-backwards f = omega (arith, f .ordered (whole (span 0 5 4 0)) (List·Memᴰ·head refl))
+row-backwards f = omega (arith, f .covers .ordered (whole (span 0 5 4 0)) (List·Memᴰ·head refl))
 
 -- ---- the share's least error
 
-only-least-G : (L : ℕ) → LeastOfFewest val-G L → L ≡ 40087
-only-least-G L is = omega (arith, one-least 0 log-G L 40087 is least-G, one-least 0 log-G 40087 L least-G is)
+only-least-G : (L : ℕ) → LeastOfFewest lists-G L → L ≡ 40087
+only-least-G L is = omega (arith, one-least lists-G L 40087 is least-G, one-least lists-G 40087 L least-G is)
 
 -- 0 is not the error of three rows (fits, fewest), 11,280 is that of four (fewest), 40,086 of no list (error), and 40,088
 -- would not be the least (least)
-pub least-of-no-rows : LeastOfFewest val-G 0 → ⊥
+pub least-of-no-rows : LeastOfFewest lists-G 0 → ⊥
 least-of-no-rows is = omega (arith, only-least-G 0 is)
 
-pub least-of-four-rows : LeastOfFewest val-G 11280 → ⊥
+pub least-of-four-rows : LeastOfFewest lists-G 11280 → ⊥
 least-of-four-rows is = omega (arith, only-least-G 11280 is)
 
-pub least-too-low : LeastOfFewest val-G 40086 → ⊥
+pub least-too-low : LeastOfFewest lists-G 40086 → ⊥
 least-too-low is = omega (arith, only-least-G 40086 is)
 
-pub least-too-high : LeastOfFewest val-G 40088 → ⊥
+pub least-too-high : LeastOfFewest lists-G 40088 → ⊥
 least-too-high is = omega (arith, only-least-G 40088 is)
 
 -- with p = 281 the four rows are not within the share (met, and isLeast: a greater error would do)
-pub four-exceed-281 : WithinShare val-G 281 (map whole rows-G) → ⊥
+pub four-exceed-281 : WithinShare lists-G 281 (map whole rows-G) → ⊥
 four-exceed-281 w =
     let error = four-fit .1 in
     let of = only-least-G (w .of) (w .isLeast) in
@@ -197,63 +226,63 @@ four-exceed-281 w =
     omega arith
 
 -- with p = 282 they are
-four-within-282 : WithinShare val-G 282 (map whole rows-G)
+four-within-282 : WithinShare lists-G 282 (map whole rows-G)
 four-within-282 = let error = four-fit .1 in record { of = 40087; isLeast = least-G; met = omega arith }
 
 -- ---- a row limit
 
 -- one row per run, where four rows may be had (least)
-pub one-row-per-run : BestOfLimit val-G 4 40087 (map whole runs-G) → ⊥
+pub one-row-per-run : BestOfLimit lists-G 4 40087 (map whole runs-G) → ⊥
 one-row-per-run b =
     let error = four-fit .1 in
     let less = b .least (map whole rows-G) (four-fit .0) (omega arith) in
     omega arith
 
--- the right rows, with an error one too low or too high (squares)
-pub error-too-low : BestOfLimit val-G 4 11279 (map whole rows-G) → ⊥
-error-too-low b = omega (arith, b .squares, four-fit .1)
+-- the right rows, with an error one too low or too high (is)
+pub error-too-low : BestOfLimit lists-G 4 11279 (map whole rows-G) → ⊥
+error-too-low b = omega (arith, b .is, four-fit .1)
 
-pub error-too-high : BestOfLimit val-G 4 11281 (map whole rows-G) → ⊥
-error-too-high b = omega (arith, b .squares, four-fit .1)
+pub error-too-high : BestOfLimit lists-G 4 11281 (map whole rows-G) → ⊥
+error-too-high b = omega (arith, b .is, four-fit .1)
 
 -- four rows with a limit of three (count)
-pub row-over-limit : BestOfLimit val-G 3 11280 (map whole rows-G) → ⊥
+pub row-over-limit : BestOfLimit lists-G 3 11280 (map whole rows-G) → ⊥
 row-over-limit b = omega (arith, b .count)
 
 -- loads 0, 1, 0 with a limit of two: two rows have the right error, and so has one (fewest)
-pub row-too-many : BestOfLimit (value 0 log-tie) 2 1 (map whole (span 0 0 1 0 ∷ span 0 2 2 0 ∷ [])) → ⊥
+pub row-too-many : BestOfLimit (rowLists 0 (value 0 log-tie)) 2 1 (map whole (span 0 0 1 0 ∷ span 0 2 2 0 ∷ [])) → ⊥
 row-too-many b = omega (arith, b .fewest (map whole (span 0 0 2 0 ∷ [])) (one-fit .0) (omega arith) (one-fit .1))
 
 -- rows with less error that leave a frame out (fits)
-pub cheaper-without-a-frame : BestOfLimit val-G 2 40087 (map whole (span 0 0 6 201 ∷ span 0 9 10 50 ∷ [])) → ⊥
+pub cheaper-without-a-frame : BestOfLimit lists-G 2 40087 (map whole (span 0 0 6 201 ∷ span 0 9 10 50 ∷ [])) → ⊥
 cheaper-without-a-frame b = frame-left-out (b .fits)
 
 -- ---- a share
 
 -- p = 281: four rows exceed it (met)
-pub four-rows-for-281 : BestOfShare val-G 281 11280 (map whole rows-G) → ⊥
+pub four-rows-for-281 : BestOfShare lists-G 281 11280 (map whole rows-G) → ⊥
 four-rows-for-281 b = four-exceed-281 (b .met)
 
 -- p = 282: five rows are not the fewest (fewest)
-pub five-rows-for-282 : BestOfShare val-G 282 67 (map whole five-G) → ⊥
+pub five-rows-for-282 : BestOfShare lists-G 282 67 (map whole five-G) → ⊥
 five-rows-for-282 b = b .fewest (map whole rows-G) (four-fit .0) (omega arith) four-within-282
 
 -- p = 999: four rows within the share, though others have less error (least)
-pub other-rows-for-999 : BestOfShare val-G 999 40000 (map whole other-G) → ⊥
+pub other-rows-for-999 : BestOfShare lists-G 999 40000 (map whole other-G) → ⊥
 other-rows-for-999 b =
     let error = four-fit .1 in
     let less = b .least (map whole rows-G) (four-fit .0) refl in
     omega arith
 
--- p = 282: the right rows, with an error one too low or too high (squares)
-pub share-error-too-low : BestOfShare val-G 282 11279 (map whole rows-G) → ⊥
-share-error-too-low b = omega (arith, b .squares, four-fit .1)
+-- p = 282: the right rows, with an error one too low or too high (is)
+pub share-error-too-low : BestOfShare lists-G 282 11279 (map whole rows-G) → ⊥
+share-error-too-low b = omega (arith, b .is, four-fit .1)
 
-pub share-error-too-high : BestOfShare val-G 282 11281 (map whole rows-G) → ⊥
-share-error-too-high b = omega (arith, b .squares, four-fit .1)
+pub share-error-too-high : BestOfShare lists-G 282 11281 (map whole rows-G) → ⊥
+share-error-too-high b = omega (arith, b .is, four-fit .1)
 
 -- p = 1,000: rows that leave a frame out (fits)
-pub share-without-a-frame : BestOfShare val-G 1000 40087 (map whole (span 0 0 6 201 ∷ span 0 9 10 50 ∷ [])) → ⊥
+pub share-without-a-frame : BestOfShare lists-G 1000 40087 (map whole (span 0 0 6 201 ∷ span 0 9 10 50 ∷ [])) → ⊥
 share-without-a-frame b = frame-left-out (b .fits)
 
 -- ---- 'too few rows'
@@ -261,19 +290,20 @@ share-without-a-frame b = frame-left-out (b .fits)
 -- said of G with c = 3
 pub said-of-three : SaysTooFew (query 0 (Rows 3)) (bytes log-G) (refused 10 0) → ⊥
 said-of-three says =
-    subst (λ rs. NoRows (Rows 3) (value 0 rs)) decoded (says .0 refl) (map whole runs-G) (runs-fit .0) (omega arith)
+    subst (λ rs. NoRows (rowLists 0 (value 0 rs)) (Rows 3)) decoded (says .0 refl) (map whole runs-G) (runs-fit .0) (omega arith)
 
 -- not said of G with c = 2
 pub not-said-of-two : (counts : Counts) → SaysTooFew (query 0 (Rows 2)) (bytes log-G) (accepted counts) → ⊥
+unfolding kindKnown
 not-said-of-two counts says =
-    accepted≢refused (says .1 (subst (λ rs. NoRows (Rows 2) (value 0 rs)) (sym decoded) two-never))
+    accepted≢refused (says .1 (subst (λ rs. NoRows (rowLists 0 (value 0 rs)) (Rows 2)) (sym decoded) (two-never 0 refl two-refused)))
 
 -- said of G with p = 0: its segments are within every share
 pub said-of-a-share : SaysTooFew (query 0 (Share 0)) (bytes log-G) (refused 10 0) → ⊥
 unfolding mostRows
 said-of-a-share says =
     let error = segments-fit .1 in
-    subst (λ rs. NoRows (Share 0) (value 0 rs)) decoded (says .0 refl) (map whole segments-G) (segments-fit .0) (omega arith)
+    subst (λ rs. NoRows (rowLists 0 (value 0 rs)) (Share 0)) decoded (says .0 refl) (map whole segments-G) (segments-fit .0) (omega arith)
     (record { of = 40087; isLeast = least-G; met = omega arith })
 
 -- ---- what is read from a slot
@@ -347,14 +377,14 @@ pub slot-not-best : BestSlot (query 0 (Rows 4)) (bytes log-G) (slotBytes 0 40087
 slot-not-best b =
     let (kind, error, rows) = one-reading _ _ _ _ _ _ _ (b .reads) (readings .2) in
     one-row-per-run
-    (subst (λ rs. BestOfLimit (value 0 rs) 4 40087 (map whole runs-G)) decoded (rw (error, rows) at (b .best)))
+    (subst (λ rs. BestOfLimit (rowLists 0 (value 0 rs)) 4 40087 (map whole runs-G)) decoded (rw (error, rows) at (b .best)))
 
 -- five rows for p = 282 (best, with a share)
 pub slot-not-fewest : BestSlot (query 0 (Share 282)) (bytes log-G) (slotBytes 0 67 five-G) → ⊥
 slot-not-fewest b =
     let (kind, error, rows) = one-reading _ _ _ _ _ _ _ (b .reads) (readings .3) in
     five-rows-for-282
-    (subst (λ rs. BestOfShare (value 0 rs) 282 67 (map whole five-G)) decoded (rw (error, rows) at (b .best)))
+    (subst (λ rs. BestOfShare (rowLists 0 (value 0 rs)) 282 67 (map whole five-G)) decoded (rw (error, rows) at (b .best)))
 
 -- ---- what the calls promise beyond their equations
 
@@ -379,8 +409,8 @@ success-over-untouched counts p = slot-untouched (p .best counts refl)
 -- 'too few rows' before the runs are counted (tooFew)
 pub ten-before-runs : (after : List ℕ)
     → QueryPromise (query 0 (Rows 3)) (bytes log-G) (replicate 768 0) (refused 10 0) after → ⊥
-unfolding slotLength boundKnown mostRows
-ten-before-runs after p = said-of-three (p .tooFew (omega arith) (in-order (Rows 3) refl))
+unfolding slotLength kindKnown boundKnown mostRows
+ten-before-runs after p = said-of-three (p .tooFew (omega arith) (in-order 0 (Rows 3) refl refl))
 
 -- cuts weighed for a letter that names no bound (weighed)
 pub cuts-for-no-letter : (after : List ℕ)
@@ -397,28 +427,28 @@ ten-by-letter after p = ten-before-runs after (p .named (Rows 3) refl)
 -- ---- the rest of demand 3
 
 -- a row where nothing is covered (uncovered)
-pub row-on-nothing : Fits (value 0 []) (map whole (span 0 0 0 0 ∷ [])) → ⊥
+pub row-on-nothing : FitsFor 0 (value 0 []) (map whole (span 0 0 0 0 ∷ [])) → ⊥
 unfolding horizon
 row-on-nothing f =
     omega (
       arith,
-      ap length (demand3 .uncovered (value 0 []) (λ g f. value-none 0 [] g f zero-le) (map whole (span 0 0 0 0 ∷ [])) .0 f),
+      ap length (demand3 .uncovered 0 (value 0 []) (λ g f. value-none 0 [] g f zero-le) (map whole (span 0 0 0 0 ∷ [])) .0 f),
     )
 
 -- every list exceeds every share (oneLeast: there is one)
-pub everything-exceeds : ((rows : List (Span ℤ)) → Exceeds val-G 1000 rows) → ⊥
+pub everything-exceeds : ((rows : List (Span ℤ)) → Exceeds lists-G 1000 rows) → ⊥
 everything-exceeds none-within =
     let (L, is, only) = demand3 .oneLeast 0 (bytes log-G) in
-    let here : LeastOfFewest val-G L = subst (λ rs. LeastOfFewest (value 0 rs) L) decoded is in
+    let here : LeastOfFewest lists-G L = subst (λ rs. LeastOfFewest (rowLists 0 (value 0 rs)) L) decoded is in
     let error = here .error in
-    none-within (here .rows) (record { of = L; isLeast = here; met = omega arith })
+    none-within (here .choice) (record { of = L; isLeast = here; met = omega arith })
 
 -- two errors are the least (oneLeast: there is no other)
-pub two-least : (L : ℕ) → LeastOfFewest val-G L → LeastOfFewest val-G (suc L) → ⊥
+pub two-least : (L : ℕ) → LeastOfFewest lists-G L → LeastOfFewest lists-G (suc L) → ⊥
 two-least L is other =
     let (M, least, only) = demand3 .oneLeast 0 (bytes log-G) in
     omega (
       arith,
-      only L (subst (λ rs. LeastOfFewest (value 0 rs) L) (sym decoded) is),
-      only (suc L) (subst (λ rs. LeastOfFewest (value 0 rs) (suc L)) (sym decoded) other),
+      only L (subst (λ rs. LeastOfFewest (rowLists 0 (value 0 rs)) L) (sym decoded) is),
+      only (suc L) (subst (λ rs. LeastOfFewest (rowLists 0 (value 0 rs)) (suc L)) (sym decoded) other),
     )

@@ -12,7 +12,7 @@ use lib.ListN.{length}
 use Rattle.model.specs.Common.{sumOf, listFrom, numberAt, bytesOf}
 use Rattle.model.specs.Spans.{Span, groupCount, frameCount, spanLength, meets, holds, adjacent, nowhere}
 use Rattle.model.specs.Log.{recordLength, recordBytes, recordAt, recordCount, records, meeting, sum, aggregate, aggregated, value}
-use Rattle.model.specs.Blocks.{segmentAt, gap, lastGap, runsTo, block, empty, totalsOf, add, totals, nearest, rowValue, squared, errorWith, blockError, rowOf}
+use Rattle.model.specs.Blocks.{segmentAt, gap, lastGap, runsTo, block, empty, totalsOf, add, totals, nearest, valueFor, rowValue, squared, errorWith, blockError, rowOf}
 use Rattle.model.specs.Split.{untried, plus, below, exceeds, weigh, scan, single, cell, least, errorOf, gapBelow, rowsOf, runs, leastOf, mostRows}
 use Rattle.model.specs.Reductions.{IsReduction, Merges, reductionError, NotEarlier, IsLeast, BestWithin, FewestWithin}
 use Rattle.model.specs.Slot.{slotLength}
@@ -101,7 +101,7 @@ mean-of-nothing v m = omega (arith, m .lessThanOneBelow)
 -- ---- reductions of the segments of G
 
 abbrev err-G : ℕ → ℕ → ℕ
-err-G = errorOf segments-G
+err-G = errorOf 0 segments-G
 
 abbrev low-G : ℕ → ℕ
 low-G = gapBelow segments-G
@@ -126,8 +126,8 @@ four-reduction =
 
 errors-G : (reductionError err-G 6 runs-cut ≡ 40087) × (reductionError err-G 6 four-cut ≡ 11280)
     × (reductionError err-G 6 other-cut ≡ 40000)
-    × (leastOf segments-G 3 ≡ some 40087) × (leastOf segments-G 4 ≡ some 11280)
-unfolding reductionError errorOf gapBelow lastGap gap segmentAt adjacent block listFrom totals totalsOf add empty spanLength rowValue nearest blockError errorWith sumOf squared nowhere leastOf least cell scan single untried plus below exceeds weigh
+    × (leastOf 0 segments-G 3 ≡ some 40087) × (leastOf 0 segments-G 4 ≡ some 11280)
+unfolding reductionError errorOf gapBelow lastGap gap segmentAt adjacent block listFrom totals totalsOf add empty spanLength rowValue valueFor nearest blockError errorWith sumOf squared nowhere leastOf least cell scan single untried plus below exceeds weigh
 errors-G = (refl, refl, refl, refl, refl)
 
 -- an empty block, a block across the gap before group 1, and no block for the segments up to 4
@@ -149,11 +149,11 @@ one-least-error err low n k e e′ a b = omega (arith, a .least (b .cuts) (b .is
 
 least-three : IsLeast err-G low-G 6 3 40087
 unfolding gapBelow leastOf
-least-three = least-of (segmentAt segments-G) 6 err-G (widens segments-G) 3 40087 (errors-G .3)
+least-three = least-of (segmentAt segments-G) 6 err-G (widens 0 segments-G) 3 40087 (errors-G .3)
 
 least-four : IsLeast err-G low-G 6 4 11280
 unfolding gapBelow leastOf
-least-four = least-of (segmentAt segments-G) 6 err-G (widens segments-G) 4 11280 (errors-G .4)
+least-four = least-of (segmentAt segments-G) 6 err-G (widens 0 segments-G) 4 11280 (errors-G .4)
 
 -- 0 is the error of six rows, and of no cuts into four (isReduction, count, error)
 pub least-of-six : IsLeast err-G low-G 6 4 0 → ⊥
@@ -225,24 +225,24 @@ reductions-tie = (
   (omega arith, omega arith, (omega arith, omega arith, (omega arith, omega arith, refl))),
 )
 
-errors-tie : (reductionError (errorOf segments-tie) 3 (0 ∷ []) ≡ 1) × (reductionError (errorOf segments-tie) 3 (2 ∷ 0 ∷ []) ≡ 1)
-    × (reductionError (errorOf segments-late) 3 (1 ∷ 0 ∷ []) ≡ 8) × (reductionError (errorOf segments-late) 3 (2 ∷ 0 ∷ []) ≡ 8)
-    × (reductionError (errorOf segments-later) 4 (3 ∷ 1 ∷ 0 ∷ []) ≡ 8) × (reductionError (errorOf segments-later) 4 (3 ∷ 2 ∷ 0 ∷ []) ≡ 8)
-unfolding reductionError errorOf segmentAt block listFrom totals totalsOf add empty spanLength rowValue nearest blockError errorWith sumOf squared
+errors-tie : (reductionError (errorOf 0 segments-tie) 3 (0 ∷ []) ≡ 1) × (reductionError (errorOf 0 segments-tie) 3 (2 ∷ 0 ∷ []) ≡ 1)
+    × (reductionError (errorOf 0 segments-late) 3 (1 ∷ 0 ∷ []) ≡ 8) × (reductionError (errorOf 0 segments-late) 3 (2 ∷ 0 ∷ []) ≡ 8)
+    × (reductionError (errorOf 0 segments-later) 4 (3 ∷ 1 ∷ 0 ∷ []) ≡ 8) × (reductionError (errorOf 0 segments-later) 4 (3 ∷ 2 ∷ 0 ∷ []) ≡ 8)
+unfolding reductionError errorOf segmentAt block listFrom totals totalsOf add empty spanLength rowValue valueFor nearest blockError errorWith sumOf squared
 errors-tie = (refl, refl, refl, refl, refl, refl)
 
 -- loads 0, 1, 0 with c = 2: two rows have the right error, and so has one (fewest)
-pub limit-with-a-row-more : BestWithin (errorOf segments-tie) (gapBelow segments-tie) 3 2 (2 ∷ 0 ∷ []) → ⊥
+pub limit-with-a-row-more : BestWithin (errorOf 0 segments-tie) (gapBelow segments-tie) 3 2 (2 ∷ 0 ∷ []) → ⊥
 limit-with-a-row-more b =
     omega (arith, b .fewest (0 ∷ []) (reductions-tie .0) (omega (arith, errors-tie .0, errors-tie .1)))
 
 -- loads 0, 4, 8 with c = 2, and with p = 250: the first of equal cuts (latest)
-pub first-of-equal-cuts : BestWithin (errorOf segments-late) (gapBelow segments-late) 3 2 (1 ∷ 0 ∷ []) → ⊥
+pub first-of-equal-cuts : BestWithin (errorOf 0 segments-late) (gapBelow segments-late) 3 2 (1 ∷ 0 ∷ []) → ⊥
 first-of-equal-cuts b =
     ⊎-elim (λ h. omega arith) (λ h. omega arith)
     (b .latest (2 ∷ 0 ∷ []) (reductions-tie .1) refl (omega (arith, errors-tie .2, errors-tie .3)))
 
-pub share-first-of-equal-cuts : FewestWithin (errorOf segments-late) (gapBelow segments-late) 3 250 1 (1 ∷ 0 ∷ []) → ⊥
+pub share-first-of-equal-cuts : FewestWithin (errorOf 0 segments-late) (gapBelow segments-late) 3 250 1 (1 ∷ 0 ∷ []) → ⊥
 share-first-of-equal-cuts b =
     ⊎-elim (λ h. omega arith) (λ h. omega arith)
     (b .latest (2 ∷ 0 ∷ []) (reductions-tie .1) refl (omega (arith, errors-tie .2, errors-tie .3)))
@@ -252,7 +252,7 @@ pub cuts-of-other-lengths : (NotEarlier [] (0 ∷ []) → ⊥) × (NotEarlier (0
 cuts-of-other-lengths = ((λ no-later. no-later), λ no-later. no-later)
 
 -- loads 0, 4, 8, 100 with c = 3: the same last cut, and then the first of equal cuts (latest)
-pub first-of-equal-cuts-before : BestWithin (errorOf segments-later) (gapBelow segments-later) 4 3 (3 ∷ 1 ∷ 0 ∷ []) → ⊥
+pub first-of-equal-cuts-before : BestWithin (errorOf 0 segments-later) (gapBelow segments-later) 4 3 (3 ∷ 1 ∷ 0 ∷ []) → ⊥
 first-of-equal-cuts-before b =
     ⊎-elim (λ h. omega arith)
     (λ h. ⊎-elim (λ k. omega arith) (λ k. omega arith) (h .1))
@@ -264,11 +264,11 @@ found-G : logSegments 0 (bytes log-G) ≡ segments-G
 found-G = worked-cases .0 .0 .0
 
 -- the rows of four cuts, and the error of its blocks (Cut)
-pub cut-to-other-rows : Cut segments-G (record { rows = runs-G; error = 11280; weighed = 16 }) four-cut → ⊥
+pub cut-to-other-rows : Cut 0 segments-G (record { rows = runs-G; error = 11280; weighed = 16 }) four-cut → ⊥
 unfolding rowsOf rowOf segmentAt
 cut-to-other-rows c = omega (arith, ap length (c .rows))
 
-pub cut-to-another-error : Cut segments-G (record { rows = rows-G; error = 11279; weighed = 16 }) four-cut → ⊥
+pub cut-to-another-error : Cut 0 segments-G (record { rows = rows-G; error = 11279; weighed = 16 }) four-cut → ⊥
 cut-to-another-error c = omega (arith, c .error ∙ errors-G .1)
 
 -- neighbours that are not joined (segmentation)
@@ -303,8 +303,8 @@ pub answered-by-runs : (weighed : ℕ) → queryOutcome (query 0 (Rows 4)) (byte
 unfolding countsOf
 answered-by-runs weighed e =
     let (cuts, cut, reduces, counts) = demand2 .reduction (query 0 (Rows 4)) (bytes log-G) 768 _ e in
-    let best = subst (λ segs. BestWithin (errorOf segs) (gapBelow segs) (length segs) 4 cuts) found-G reduces in
-    let error = subst (λ segs. (answerOf (query 0 (Rows 4)) (bytes log-G)) .error ≡ reductionError (errorOf segs) (length segs) cuts) found-G (cut .error) in
+    let best = subst (λ segs. BestWithin (errorOf 0 segs) (gapBelow segs) (length segs) 4 cuts) found-G reduces in
+    let error = subst (λ segs. (answerOf (query 0 (Rows 4)) (bytes log-G)) .error ≡ reductionError (errorOf 0 segs) (length segs) cuts) found-G (cut .error) in
     omega (
       arith,
       best .least four-cut (four-reduction) (omega arith),
@@ -317,13 +317,13 @@ pub answered-by-five : (weighed : ℕ)
 unfolding countsOf runs runsTo gap adjacent segmentAt
 answered-by-five weighed e =
     let (cuts, cut, reduces, counts) = demand2 .reduction (query 0 (Share 282)) (bytes log-G) 768 _ e in
-    let best = subst (λ segs. FewestWithin (errorOf segs) (gapBelow segs) (length segs) 282 (runs segs) cuts) found-G reduces in
+    let best = subst (λ segs. FewestWithin (errorOf 0 segs) (gapBelow segs) (length segs) 282 (runs segs) cuts) found-G reduces in
     let of = only-of (best .of) (best .isLeast) in
     let error = errors-G .1 in
     omega (
       arith,
       best .fewest four-cut (four-reduction) (omega arith),
-      ap (length {A = Span ℕ}) (cut .rows) ∙ rows-length _ _ cuts,
+      ap (length {A = Span ℕ}) (cut .rows) ∙ rows-length _ _ _ cuts,
       ap (λ (c : Counts). c .rows) counts,
     )
 
@@ -340,8 +340,8 @@ bytes-only (b ∷ rest) h (suc i) = bytes-only rest (and-true (ltb b 256) _ h .1
 
 -- G passes the questions of a log
 logged-G : AllPass (logQuestions (bytes log-G))
-unfolding boundKnown mostRows orderQuestions
-logged-G = all-tail _ _ (all-tail _ _ (in-order (Rows 4) refl))
+unfolding kindKnown boundKnown mostRows orderQuestions
+logged-G = all-tail _ _ (all-tail _ _ (in-order 0 (Rows 4) refl refl))
 
 -- a load lost where two records overlap (conserved)
 pub load-lost : logSegments 0 (bytes log-G)

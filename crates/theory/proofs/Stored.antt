@@ -1,6 +1,7 @@
--- The rows of a reduction can be stored in a slot: each has a known group, a first frame not behind its last, a last frame of
--- 16 bits and a value of at most 128,000; each follows the one before it; and there are as many as blocks. Assumes nothing.
-use Prim.Native.Nat.{ℕ, zero, suc, _+_, _-_, _^_, _≤_, _<_, zero-le}
+-- The rows of a reduction can be stored in a slot, whichever kind's rule their values were made by: each has a known group, a first
+-- frame not behind its last, a last frame of 16 bits and a value of at most 128,000; each follows the one before it; and there
+-- are as many as blocks. Assumes nothing.
+use Prim.Native.Nat.{ℕ, zero, suc, _+_, _-_, _^_, _≤_, _<_}
 use mathlib.Core.Bool.{true, or-true}
 use mathlib.Core.List.{List, [], _∷_, _++_, append-nil, append-assoc, List·Memᴰ}
 use mathlib.Core.Logic.{inl, inr}
@@ -10,26 +11,25 @@ use native.Mathlib.Omega.{arith}
 use lib.Dec.{ltb, eqb}
 use lib.ListN.{length, length-append}
 use borrow.Author.Tests.{eqb-true, lt-ltb, le-leb, eq-eqb}
-use Rattle.model.specs.Spans.{Span, groupCount, frameCount, spanLength, adjacent, nowhere}
+use Rattle.model.specs.Spans.{Span, groupCount, frameCount, adjacent, nowhere}
 use Rattle.model.specs.Log.{value}
 use Rattle.model.specs.Segments.{segments}
-use Rattle.model.specs.Blocks.{segmentAt, lastGap, block, totalsOf, add, totals, rowValue, rowOf}
+use Rattle.model.specs.Blocks.{segmentAt, lastGap, block, rowValue, rowOf}
 use Rattle.model.specs.Split.{gapBelow, rowsOf}
 use Rattle.model.specs.Reductions.{IsReduction}
 use Rattle.model.specs.Questions.{groupKnown, rowKnown, follows, mostRecords, mostValue}
 use Rattle.theory.proofs.Tests.{true-and, adjacent-true}
 use Rattle.theory.proofs.Frames.{Heads, Chain, heads-map, chain-member, chain-neighbours, Earlier}
 use Rattle.theory.proofs.Frames.{ordered, value-inside, segmentation}
-use Rattle.theory.proofs.Blocks.{block-cons}
-use Rattle.theory.proofs.Nearest.{row-between}
+use Rattle.theory.proofs.RowValues.{row-le}
 use Rattle.theory.proofs.Converse.{member-listFrom, block-adjacent}
 use Rattle.theory.proofs.Bounds.{segment-value-le, segment-member}
 
 -- a row for each block
-pub rows-length : (seg : ℕ → Span ℕ) (i : ℕ) (cuts : List ℕ) → length (rowsOf seg i cuts) ≡ length cuts
+pub rows-length : (rule : ℕ) (seg : ℕ → Span ℕ) (i : ℕ) (cuts : List ℕ) → length (rowsOf rule seg i cuts) ≡ length cuts
 unfolding rowsOf
-rows-length seg i [] = refl
-rows-length seg i (j ∷ js) = let ih = rows-length seg j js in simp length-append (omega arith)
+rows-length rule seg i [] = refl
+rows-length rule seg i (j ∷ js) = let ih = rows-length rule seg j js in simp length-append (omega arith)
 
 -- spans that are adjacent, one after the other, are of one group, and the last ends no earlier than the first begins
 reach : (seg : ℕ → Span ℕ) (j count : ℕ) → ((k : ℕ) → j ≤ k → k ≤ j + count → (seg k) .first ≤ (seg k) .last)
@@ -42,32 +42,26 @@ reach seg j (suc count) proper near =
     let here = proper (suc (j + count)) (omega arith) (omega arith) in
     rw add-suc (omega arith)
 
--- a block that is not empty has a frame, where its first segment has one
-some-frames : (seg : ℕ → Span ℕ) (j i : ℕ) → j < i → (seg j) .first ≤ (seg j) .last
-    → 0 < (totals (block seg j i)) .frames
-unfolding totals add totalsOf spanLength
-some-frames seg j i below proper = rw (block-cons seg j i below) (omega arith)
-
 -- ---- rows as a chain
 
 -- the span begins behind the segment before number i
 abbrev Behind : (ℕ → Span ℕ) → ℕ → Span ℕ → Type 0
 Behind seg i t = (k : ℕ) → i ≡ suc k → Earlier (seg k) t
 
-module _ (seg : ℕ → Span ℕ) (n : ℕ) (P : Span ℕ → Type 0)
+module _ (rule : ℕ) (seg : ℕ → Span ℕ) (n : ℕ) (P : Span ℕ → Type 0)
     (apart : (k : ℕ) → suc k < n → Earlier (seg k) (seg (suc k)))
     (proper : (j i : ℕ) → j < i → i ≤ n → lastGap seg i ≤ j
-    → P (rowOf seg j i) × ((seg j) .group ≡ (seg (i - 1)) .group)) where
+    → P (rowOf rule seg j i) × ((seg j) .group ≡ (seg (i - 1)) .group)) where
   -- the rows of a reduction, before a chain that begins behind its last segment
   rows-chain : (cuts : List ℕ) (i : ℕ) (rest : List (Span ℕ)) → i ≤ n → IsReduction (lastGap seg) i cuts
-      → Chain P Earlier rest → Heads (Behind seg i) rest → Chain P Earlier (rowsOf seg i cuts ++ rest)
+      → Chain P Earlier rest → Heads (Behind seg i) rest → Chain P Earlier (rowsOf rule seg i cuts ++ rest)
   unfolding rowsOf rowOf
   rows-chain [] i rest le red c h = c
   rows-chain (j ∷ js) i rest le red c h =
       let below = red .0 in
       let here = proper j i below le (red .1) in
       rw append-assoc
-      (rows-chain js j (rowOf seg j i ∷ rest) (omega arith) (red .2) (
+      (rows-chain js j (rowOf rule seg j i ∷ rest) (omega arith) (red .2) (
         here .0,
         heads-map rest (λ t behind. rw (here .1) (behind (i - 1) (omega arith))) h,
         c,
@@ -99,8 +93,8 @@ module _ (kind : ℕ) (rs : List (Span ℕ)) where
   abbrev pub nth : ℕ → Span ℕ
   nth i = segmentAt (segments kind rs) i
 
-  abbrev pub rowsAt : List ℕ → List (Span ℕ)
-  rowsAt cuts = rowsOf (segmentAt (segments kind rs)) (length (segments kind rs)) cuts
+  abbrev pub rowsAt : ℕ → List ℕ → List (Span ℕ)
+  rowsAt rule cuts = rowsOf rule (segmentAt (segments kind rs)) (length (segments kind rs)) cuts
 
   -- a segment has a frame, and lies among the groups and frames
   nth-inside : (k : ℕ) → k < length (segments kind rs)
@@ -110,22 +104,20 @@ module _ (kind : ℕ) (rs : List (Span ℕ)) where
       ordered eqb eqb-true (value kind rs) groupCount frameCount (value-inside kind rs) (nth k)
       (segment-member (segments kind rs) k lt)
 
-module _ (kind : ℕ) (rs : List (Span ℕ)) (few : length rs ≤ mostRecords)
+module _ (rule kind : ℕ) (rs : List (Span ℕ)) (few : length rs ≤ mostRecords)
     (small : (r : Span ℕ) → List·Memᴰ r rs → r .value ≤ 1000) where
   -- a block's row value is at most 128,000, as its segments' are
-  row-value-le : (j i : ℕ) → j < i → i ≤ length (segments kind rs) → rowValue (block (nth kind rs) j i) ≤ mostValue
+  row-value-le : (j i : ℕ) → j < i → i ≤ length (segments kind rs) → rowValue rule (block (nth kind rs) j i) ≤ mostValue
   unfolding block
   row-value-le j i below le =
-      row-between 0 mostValue (block (nth kind rs) j i)
-      (some-frames (nth kind rs) j i below (nth-inside kind rs j (omega arith) .0))
+      row-le rule mostValue (block (nth kind rs) j i)
       (λ s m.
       let x = member-listFrom (nth kind rs) j (i - j) s m in
-      (zero-le, rw (x .3) (segment-value-le kind rs few small _ (segment-member (segments kind rs) (x .0) (omega arith)))))
-      .1
+      rw (x .3) (segment-value-le kind rs few small _ (segment-member (segments kind rs) (x .0) (omega arith))))
 
   -- a block's row can be held, and its segments are of one group
   row-held : (j i : ℕ) → j < i → i ≤ length (segments kind rs) → gapBelow (segments kind rs) i ≤ j
-      → Held (rowOf (nth kind rs) j i) × ((nth kind rs j) .group ≡ (nth kind rs (i - 1)) .group)
+      → Held (rowOf rule (nth kind rs) j i) × ((nth kind rs j) .group ≡ (nth kind rs (i - 1)) .group)
   unfolding gapBelow rowOf
   row-held j i below le low =
       let end : j + (i - suc j) ≡ i - 1 = omega arith in
@@ -144,20 +136,20 @@ module _ (kind : ℕ) (rs : List (Span ℕ)) (few : length rs ≤ mostRecords)
 
   module _ (cuts : List ℕ) (red : IsReduction (gapBelow (segments kind rs)) (length (segments kind rs)) cuts) where
     -- the rows are a chain of rows that can be held
-    rows-held : Chain Held Earlier (rowsAt kind rs cuts)
+    rows-held : Chain Held Earlier (rowsAt kind rs rule cuts)
     unfolding gapBelow
     rows-held =
         rw append-nil at
-        (rows-chain (nth kind rs) (length (segments kind rs)) Held (segmentation kind rs .sorted) row-held cuts
+        (rows-chain rule (nth kind rs) (length (segments kind rs)) Held (segmentation kind rs .sorted) row-held cuts
         (length (segments kind rs)) [] (le-refl _) red tt tt)
 
     -- every row passes the tests of a slot's rows
-    pub rows-known : (r : Span ℕ) → List·Memᴰ r (rowsAt kind rs cuts) → (rowKnown r ≡ true) × (r .last < 2 ^ 16)
-    rows-known r m = held-known r (chain-member Held Earlier (rowsAt kind rs cuts) rows-held r m)
+    pub rows-known : (r : Span ℕ) → List·Memᴰ r (rowsAt kind rs rule cuts) → (rowKnown r ≡ true) × (r .last < 2 ^ 16)
+    rows-known r m = held-known r (chain-member Held Earlier (rowsAt kind rs rule cuts) rows-held r m)
 
     -- every row follows the one before it
-    pub rows-sorted : (i : ℕ) → suc i < length (rowsAt kind rs cuts)
-        → follows (segmentAt (rowsAt kind rs cuts) (suc i)) (segmentAt (rowsAt kind rs cuts) i) ≡ true
+    pub rows-sorted : (i : ℕ) → suc i < length (rowsAt kind rs rule cuts)
+        → follows (segmentAt (rowsAt kind rs rule cuts) (suc i)) (segmentAt (rowsAt kind rs rule cuts) i) ≡ true
     unfolding segmentAt
     rows-sorted i lt =
-        earlier-follows _ _ (chain-neighbours Held Earlier (rowsAt kind rs cuts) rows-held nowhere i lt)
+        earlier-follows _ _ (chain-neighbours Held Earlier (rowsAt kind rs rule cuts) rows-held nowhere i lt)

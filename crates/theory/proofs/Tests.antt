@@ -6,6 +6,7 @@ use mathlib.Core.Path.{_≡_, refl, sym}
 use native.Mathlib.Omega.{arith}
 use lib.Dec.{leb, eqb}
 use borrow.Author.Tests.{leb-true, eqb-true, le-leb, eq-eqb}
+use Rattle.model.specs.Common.{isSome}
 use Rattle.model.specs.Spans.{Span, meets, holds, adjacent}
 
 pub true≢false : true ≡ false → ⊥
@@ -17,6 +18,16 @@ none≢some p q = let z : _≡_ {A = ℕ} 0 1 = cc in omega arith
 
 pub some-inj : {A : Type 0} {a b : A} {o : Option A} → o ≡ some a → o ≡ some b → a ≡ b
 some-inj p q = cc
+
+pub is-some : {A : Type 0} (o : Option A) → isSome o ≡ true → (a : A) × (o ≡ some a)
+unfolding isSome
+is-some none e = absurd (false≢true e)
+is-some (some a) e = (a, refl)
+
+pub is-none : {A : Type 0} (o : Option A) → isSome o ≡ false → o ≡ none
+unfolding isSome
+is-none none e = refl
+is-none (some a) e = absurd (true≢false e)
 
 -- a test is passed or failed
 pub cases {ℓ} : {P : Type ℓ} (b : Bool) → (b ≡ true → P) → (b ≡ false → P) → P

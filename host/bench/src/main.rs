@@ -39,7 +39,7 @@ struct Shape {
     log: fn(usize) -> Vec<u8>,
 }
 
-const SHAPES: [Shape; 5] = [
+const SHAPES: [Shape; 6] = [
     Shape {
         name: "no early exit",
         kind: Kind::SUM.0,
@@ -59,6 +59,11 @@ const SHAPES: [Shape; 5] = [
         name: "random, 8 groups, gaps",
         kind: Kind::SUM.0,
         log: groups,
+    },
+    Shape {
+        name: "random, greatest",
+        kind: Kind::GREATEST.0,
+        log: peaks,
     },
     Shape {
         name: "random, mean",
@@ -123,6 +128,24 @@ fn random(n: usize) -> Vec<u8> {
             })
             .collect()
     }
+}
+
+/// Random values and lengths in one run, also of the greatest load: above 128 segments each record
+/// lies within the one before and has a greater load, so that values rise and then fall.
+fn peaks(n: usize) -> Vec<u8> {
+    if n <= 128 {
+        return random(n);
+    }
+    let count = n.div_ceil(2);
+    let (mut first, mut last) = (0, 20 * count);
+    (0..count)
+        .flat_map(|i| {
+            let bytes = record(0, first, last, 1 + 7 * i + noise(i) % 7);
+            first += 1 + noise(1000 + i) % 9;
+            last -= 1 + noise(2000 + i) % 9;
+            bytes
+        })
+        .collect()
 }
 
 /// Random values in all groups with some uncovered frames. Above 128 records are not allowed, and

@@ -10,6 +10,9 @@
 /// The greatest kind.
 const MOST_KIND: u8 = 4;
 
+/// The kind of the greatest load, whose rows hold the greatest value of their block.
+const GREATEST: u8 = 3;
+
 /// A query's answer, with question 0 if it is accepted.
 #[derive(Clone, Copy, Debug, Default, PartialEq, Eq)]
 pub struct QueryAnswer {
@@ -41,12 +44,13 @@ pub struct Segment {
     pub value: u32,
 }
 
-/// Length, sum of length × value and sum of length × value² of a block.
+/// Length, sum of length × value, sum of length × value² and greatest value of a block.
 #[derive(Clone, Copy, Default)]
 pub struct Totals {
     length: u64,
     sum: u64,
     squares: u64,
+    greatest: u64,
 }
 
 impl Totals {
@@ -57,6 +61,7 @@ impl Totals {
             length,
             sum: length * value,
             squares: length * value * value,
+            greatest: value,
         }
     }
 
@@ -64,15 +69,20 @@ impl Totals {
         self.length += other.length;
         self.sum += other.sum;
         self.squares += other.squares;
+        self.greatest = self.greatest.max(other.greatest);
     }
 
-    /// The whole number nearest to the mean, the lower one at a half.
-    fn row_value(&self) -> u64 {
-        (2 * self.sum + self.length - 1) / (2 * self.length)
+    /// The greatest value, or the whole number nearest to the mean, the lower one at a half.
+    fn row_value(&self, kind: u8) -> u64 {
+        if kind == GREATEST {
+            self.greatest
+        } else {
+            (2 * self.sum + self.length - 1) / (2 * self.length)
+        }
     }
 
-    fn error(&self) -> u64 {
-        let r = self.row_value();
+    fn error(&self, kind: u8) -> u64 {
+        let r = self.row_value(kind);
         self.squares + r * r * self.length - 2 * r * self.sum
     }
 }
@@ -194,19 +204,25 @@ pub fn segments(log: &[u8], kind: u8, list: &mut [Segment]) -> (u8, usize, usize
 /// Where a query's block errors come from.
 pub trait BlockErrors {
     /// Begins a query over segments with these totals; `gap` has the last gap below i at place i.
-    fn begin(&mut self, totals: &[Totals], gap: &[u8; 256]);
+    fn begin(&mut self, totals: &[Totals], gap: &[u8; 256], kind: u8);
 
     /// The errors of the blocks that end with segment i, from segment i alone to those from
     /// segment `low` + 1 on.
-    fn ending_at(&self, totals: &[Totals], low: usize, i: usize) -> impl Iterator<Item = u64>;
+    fn ending_at(
+        &self,
+        totals: &[Totals],
+        low: usize,
+        i: usize,
+        kind: u8,
+    ) -> impl Iterator<Item = u64>;
 }
 
 /// The errors of the blocks that end with the last of these segments, the shortest block first.
-fn widening(totals: &[Totals]) -> impl ExactSizeIterator<Item = u64> + '_ {
+fn widening(totals: &[Totals], kind: u8) -> impl ExactSizeIterator<Item = u64> + '_ {
     let mut block = Totals::default();
     totals.iter().rev().map(move |total| {
         block.add(total);
-        block.error()
+        block.error(kind)
     })
 }
 
@@ -214,10 +230,16 @@ fn widening(totals: &[Totals]) -> impl ExactSizeIterator<Item = u64> + '_ {
 pub struct Anew;
 
 impl BlockErrors for Anew {
-    fn begin(&mut self, _: &[Totals], _: &[u8; 256]) {}
+    fn begin(&mut self, _: &[Totals], _: &[u8; 256], _: u8) {}
 
-    fn ending_at(&self, totals: &[Totals], low: usize, i: usize) -> impl Iterator<Item = u64> {
-        widening(&totals[low..i])
+    fn ending_at(
+        &self,
+        totals: &[Totals],
+        low: usize,
+        i: usize,
+        kind: u8,
+    ) -> impl Iterator<Item = u64> {
+        widening(&totals[low..i], kind)
     }
 }
 
@@ -240,16 +262,16 @@ impl Kept {
 }
 
 impl BlockErrors for Kept {
-    fn begin(&mut self, totals: &[Totals], gap: &[u8; 256]) {
+    fn begin(&mut self, totals: &[Totals], gap: &[u8; 256], kind: u8) {
         self.errors.clear();
         for i in 1..=totals.len() {
             self.start[i] = self.errors.len();
             self.errors
-                .extend(widening(&totals[usize::from(gap[i])..i]));
+                .extend(widening(&totals[usize::from(gap[i])..i], kind));
         }
     }
 
-    fn ending_at(&self, _: &[Totals], low: usize, i: usize) -> impl Iterator<Item = u64> {
+    fn ending_at(&self, _: &[Totals], low: usize, i: usize, _: u8) -> impl Iterator<Item = u64> {
         self.errors[self.start[i]..][..i - low].iter().copied()
     }
 }
@@ -327,14 +349,14 @@ fn try_query(
                 break;
             }
             block.add(total);
-            before[i + 1] = block.error();
+            before[i + 1] = block.error(kind);
         }
         tried = 1;
         errors[1] = before[n];
         met = m == 1 && errors[1] * 1000 <= u64::from(bound) * errors[1];
     }
     if top > 1 && (limited || !met) {
-        blocks.begin(&totals, &gap);
+        blocks.begin(&totals, &gap, kind);
     }
     for k in 2..=top {
         if met && !limited {
@@ -347,7 +369,7 @@ fn try_query(
             let (mut best, mut cut) = (NONE, 0);
             let mut left = i - low;
             let fronts = before[low..i].iter().rev();
-            for (error, front) in blocks.ending_at(&totals, low, i).zip(fronts) {
+            for (error, front) in blocks.ending_at(&totals, low, i, kind).zip(fronts) {
                 left -= 1;
                 if front + error < best {
                     best = front + error;
@@ -392,7 +414,7 @@ fn try_query(
         row[..3].copy_from_slice(&[0x50, 0x52, segments[start].group]);
         row[3..5].copy_from_slice(&segments[start].first.to_le_bytes());
         row[5..7].copy_from_slice(&segments[end - 1].last.to_le_bytes());
-        row[7..].copy_from_slice(&(block.row_value() as u32).to_le_bytes());
+        row[7..].copy_from_slice(&(block.row_value(kind) as u32).to_le_bytes());
         end = start;
     }
     Ok(QueryAnswer {

@@ -13,6 +13,8 @@ pub struct Seen {
     pub segments: [u64; 18],
     pub slot: [u64; 18],
     pub record: [u64; 18],
+    /// Slots of the greatest load by the rule of before, with other rows than now.
+    pub earlier: u64,
     /// Segments, rows and cuts of the largest case.
     pub most_segments: usize,
     pub most_rows: usize,
@@ -32,6 +34,7 @@ impl Seen {
                 *a += b;
             }
         }
+        self.earlier += other.earlier;
         self.most_segments = self.most_segments.max(other.most_segments);
         self.most_rows = self.most_rows.max(other.most_rows);
         self.most_weighed = self.most_weighed.max(other.most_weighed);
@@ -114,7 +117,7 @@ pub fn run(random: &mut Random, seen: &mut Seen) -> Result<(), String> {
     let kind = inputs::kind(random);
 
     let expected = segments(random, &log, kind, seen)?;
-    let (rule, bound) = inputs::bound(random, &expected);
+    let (rule, bound) = inputs::bound(random, &expected, kind);
     let slot = query(random, kind, rule, bound, &log, seen)
         .map_err(|why| format!("kind {kind}, rule {rule:#x}, bound {bound}: {why}"))?;
 
@@ -133,7 +136,31 @@ pub fn run(random: &mut Random, seen: &mut Seen) -> Result<(), String> {
     };
     inputs::damage_slot(random, &mut other);
     slot_calls(random, &other, seen)?;
+    if kind == reference::GREATEST && matches!(rule, c::ROWS | c::SHARE) && bound <= 64 {
+        earlier_slot(random, &expected, rule, bound, seen)?;
+    }
     write_record(random, seen)
+}
+
+/// The calls on a slot of the greatest load as it was written before its rows held their greatest
+/// values: with nearest whole numbers, and their error. It is read, walked and looked up as it is.
+fn earlier_slot(
+    random: &mut Random,
+    segments: &[Stretch],
+    rule: u8,
+    bound: u16,
+    seen: &mut Seen,
+) -> Result<(), String> {
+    let by_rule_of = |kind| reference::reduce(segments, kind, rule, bound);
+    let Some(earlier) = by_rule_of(pacer::Kind::SUM.0) else {
+        return Ok(());
+    };
+    let slot = reference::layout(reference::GREATEST, earlier.error, &earlier.rows);
+    let read = reference::read(&slot).map(|contents| contents.rows);
+    same("the reference", read, Ok(earlier.rows.clone()))?;
+    let now = by_rule_of(reference::GREATEST).map(|reduction| reduction.rows);
+    seen.earlier += u64::from(now != Some(earlier.rows));
+    slot_calls(random, &slot, seen)
 }
 
 /// The segment call. Gives the segments that a query will find, whatever list was lent.

@@ -26,9 +26,9 @@ fn outcome(kind: u8, bound: Bound, log: &[u8]) -> Result<(Vec<Stretch>, u64), u8
     Ok((stretches(&profile), profile.error()))
 }
 
-/// The rows of the answer are a fitting list, and the error is theirs.
-fn fitting(rows: &[Stretch], error: u64, frames: &[Frame]) -> Result<(), String> {
-    same("the rows fit", brute::fits(rows, frames), true)?;
+/// The rows of the answer are a list that fits for the kind, and the error is theirs.
+fn fitting(kind: u8, rows: &[Stretch], error: u64, frames: &[Frame]) -> Result<(), String> {
+    same("the rows fit", brute::fits(rows, frames, kind), true)?;
     same(
         "the error frame by frame",
         error,
@@ -49,7 +49,7 @@ fn hold(
     match (outcome(kind, bound, log), best) {
         (Ok((rows, error)), Some(best)) => {
             same("error and row count", (error, rows.len()), best)?;
-            fitting(&rows, error, frames)?;
+            fitting(kind, &rows, error, frames)?;
             Ok(Some(rows))
         }
         (Err(question), None) => {
@@ -111,20 +111,20 @@ pub fn run_small(random: &mut Random, tried: &mut Tried) -> Result<(), String> {
     let frames = reference::covered(&decoded, kind);
     let segments = reference::segments_of(&decoded, kind);
 
-    let least = brute::least_by_cuttings(&frames);
+    let least = brute::least_by_cuttings(&frames, kind);
     // At most so many numbers are tried for a row, and there are no more rows than frames.
-    let numbers = u64::from(frames.iter().map(|f| f.2).max().unwrap_or(0)) + 6;
+    let numbers = u64::from(frames.iter().map(|f| f.2).max().unwrap_or(0)) + 7;
     if numbers.saturating_pow(frames.len() as u32) <= 100_000 {
         // A test of the measure and not of the library: the least errors by cuttings with the best
         // number each are those by every combination of numbers.
-        assert_eq!(brute::least_by_lists(&frames), least, "{records:?}");
+        assert_eq!(brute::least_by_lists(&frames, kind), least, "{records:?}");
     }
     let context = |why| format!("records {records:?}, kind {kind}: {why}");
     for c in 0..=frames.len() as u16 + 1 {
         let rows = limit(kind, c, &log, &frames, &least, tried)
             .map_err(|why| context(format!("limit {c}: {why}")))?;
         if let Some(rows) = rows {
-            let chosen = brute::best_cutting(&segments, usize::from(c), false);
+            let chosen = brute::best_cutting(&segments, kind, usize::from(c), false);
             same("the paper's rows", Some(rows), chosen).map_err(context)?;
         }
     }
@@ -142,7 +142,7 @@ pub fn run_small(random: &mut Random, tried: &mut Tried) -> Result<(), String> {
         let rows = share(kind, p as u16, &log, &frames, &least, tried)
             .map_err(|why| context(format!("share {p}: {why}")))?;
         if let Some(rows) = rows {
-            let chosen = brute::best_cutting(&segments, rows.len(), true);
+            let chosen = brute::best_cutting(&segments, kind, rows.len(), true);
             same("the paper's rows", Some(rows), chosen).map_err(context)?;
         }
     }
@@ -210,7 +210,7 @@ pub fn run_many(random: &mut Random, tried: &mut Tried) -> Result<(), String> {
     let log = inputs::log_of(&records);
     let decoded = reference::records(&log);
     let frames = reference::covered(&decoded, kind);
-    let least = brute::least_by_table(&frames, 64);
+    let least = brute::least_by_table(&frames, kind, 64);
     // The fewest rows of any list, also where they are more than 64.
     let m = reference::runs(&reference::segments_of(&decoded, kind)) as u64;
     let context = |why| format!("records {records:?}, kind {kind}: {why}");

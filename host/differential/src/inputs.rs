@@ -249,7 +249,7 @@ pub fn kind(random: &mut Random) -> u8 {
 }
 
 /// A rule and a bound for some segments, often at a place where the answer changes.
-pub fn bound(random: &mut Random, segments: &[Stretch]) -> (u8, u16) {
+pub fn bound(random: &mut Random, segments: &[Stretch], kind: u8) -> (u8, u16) {
     let n = segments.len() as u64;
     let m = reference::runs(segments) as u64;
     match random.range(0, 99) {
@@ -271,7 +271,7 @@ pub fn bound(random: &mut Random, segments: &[Stretch]) -> (u8, u16) {
         // The least share that some number of rows meets, or one beside it.
         _ if n > 0 && n <= 48 && m <= n => {
             let k = random.range(m, n) as usize;
-            let mut table = Table::new(segments);
+            let mut table = Table::new(segments, kind);
             while table.rows() < k {
                 table.grow();
             }

@@ -137,7 +137,7 @@ fn print_counts(call: &str, counts: &[u64; 18]) {
     );
 }
 
-/// The questions that a call asks but that no case failed.
+/// The questions that a call asks but that no case failed, and what else no case had.
 fn unreached(seen: &Seen) -> Vec<String> {
     let calls: [(&str, &[u64; 18], &[usize]); 4] = [
         ("query", &seen.query, &[0, 1, 2, 3, 4, 5, 6, 7, 8, 9, 10]),
@@ -146,6 +146,9 @@ fn unreached(seen: &Seen) -> Vec<String> {
         ("record", &seen.record, &[0, 1, 7, 8, 9]),
     ];
     let mut missing = Vec::new();
+    if seen.earlier == 0 {
+        missing.push("a slot by the rule of before".to_string());
+    }
     for (call, counts, questions) in calls {
         for question in questions {
             if counts[*question] == 0 {
@@ -235,6 +238,10 @@ fn main() -> ExitCode {
                 println!(
                     "  most segments {}, rows {}, cuts weighed {}",
                     seen.most_segments, seen.most_rows, seen.most_weighed
+                );
+                println!(
+                    "  slots of the greatest load by the rule of before, with other rows: {}",
+                    seen.earlier
                 );
                 let missing = unreached(seen);
                 if cases >= CASES && !missing.is_empty() {

@@ -80,6 +80,28 @@ impl Kind {
     /// The least load.
     pub const LEAST: Kind = Kind(2);
     /// The greatest load.
+    ///
+    /// A row of this kind holds the greatest value in it, and its error is taken from that, so
+    /// that no frame needs more than its row says. Rows of every other kind hold the whole number
+    /// nearest to the mean.
+    ///
+    /// ```
+    /// use pacer::{Bound, Kind, Query, Record};
+    ///
+    /// # fn main() -> Result<(), pacer::Refusal> {
+    /// // A load of 200 with a peak of 900, in one row.
+    /// let log = pacer::log(&[
+    ///     Record { group: 0, first: 0, last: 59, load: 200 },
+    ///     Record { group: 0, first: 30, last: 31, load: 900 },
+    /// ])?;
+    /// let mut slot = [0; pacer::SLOT_BYTES];
+    /// let query = Query { kind: Kind::GREATEST, bound: Bound::Rows(1) };
+    /// let answer = pacer::query(query, &log, &mut slot)?;
+    /// assert_eq!(answer.error, 58 * 700 * 700);
+    /// assert_eq!(pacer::lookup(&slot, 0, 30)?, Some(900));
+    /// # Ok(())
+    /// # }
+    /// ```
     pub const GREATEST: Kind = Kind(3);
     /// The mean load in hundredths of a thousandth, rounded down: 100 times the sum of the loads
     /// divided by the count of records.

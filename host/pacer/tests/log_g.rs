@@ -211,6 +211,66 @@ fn means_of_g() {
     assert_eq!(slot, before);
 }
 
+/// Kind 3: rows hold the greatest value in them, and a share is taken of their own least error.
+#[test]
+fn greatest_of_g() {
+    let log = log_g();
+    let five = [
+        row(0, 0, 1, 100),
+        row(0, 2, 5, 200),
+        row(0, 6, 6, 210),
+        row(0, 9, 10, 50),
+        row(1, 0, 0, 7),
+    ];
+    let four = [five[0], row(0, 2, 6, 210), five[3], five[4]];
+    let three = [row(0, 0, 6, 210), five[3], five[4]];
+    let cases: [(Bound, &[Row], u64); 7] = [
+        (Bound::Rows(3), &three, 24_600),
+        (Bound::Share(1000), &three, 24_600),
+        (Bound::Rows(4), &four, 400),
+        (Bound::Share(17), &four, 400),
+        (Bound::Share(26), &four, 400),
+        (Bound::Share(16), &five, 0),
+        (Bound::Rows(64), &five, 0),
+    ];
+    for (bound, rows, error) in cases {
+        let mut slot = [0; SLOT_BYTES];
+        let query = Query {
+            kind: Kind::GREATEST,
+            bound,
+        };
+        assert_eq!(pacer::query(query, &log, &mut slot).unwrap().error, error);
+        let profile = pacer::read(&slot).unwrap();
+        assert_eq!((profile.kind(), profile.error()), (Kind::GREATEST, error));
+        assert_eq!(profile.rows(), rows, "{bound:?}");
+    }
+}
+
+/// A slot of kind 3 that was written before its rows held the greatest value: the three rows of G
+/// with the nearest mean, 173, in the first. It is read, walked and looked up as ever.
+#[test]
+fn slot_of_before() {
+    let rows = [row(0, 0, 6, 173), row(0, 9, 10, 50), row(1, 0, 0, 7)];
+    let mut slot = [0; SLOT_BYTES];
+    slot[..4].copy_from_slice(&[0x50, 0x48, 3, 3]);
+    slot[4..12].copy_from_slice(&14_943u64.to_le_bytes());
+    for (place, row) in slot[12..].chunks_exact_mut(11).zip(&rows) {
+        place[..3].copy_from_slice(&[0x50, 0x52, row.group]);
+        place[3..5].copy_from_slice(&row.first.to_le_bytes());
+        place[5..7].copy_from_slice(&row.last.to_le_bytes());
+        place[7..].copy_from_slice(&row.value.to_le_bytes());
+    }
+    let profile = pacer::read(&slot).unwrap();
+    assert_eq!((profile.kind(), profile.error()), (Kind::GREATEST, 14_943));
+    assert_eq!(profile.rows(), rows);
+    assert_eq!(pacer::lookup(&slot, 0, 6), Ok(Some(173)));
+    let mut walker = Walker::new(&slot);
+    for row in rows {
+        assert_eq!(walker.step(), Ok(Some(row)));
+    }
+    assert_eq!(walker.step(), Ok(None));
+}
+
 #[test]
 fn rows_and_refusals() {
     let log = log_g();

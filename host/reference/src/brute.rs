@@ -1,16 +1,18 @@
 //! Demand 3 by trying every list of rows.
 //!
 //! Nothing here knows segments or blocks: a log is its covered frames with their values, a list
-//! of rows is any cutting of these frames, and a row's number is tried out.
+//! of rows is any cutting of these frames, and a row's number is tried out. By the kind of the
+//! greatest load only numbers fit that are nowhere below a value in the row.
 
-use crate::Stretch;
+use crate::{Stretch, GREATEST};
 
 /// A covered frame: group, frame and value.
 pub type Frame = (u8, u32, u32);
 
-/// Whether a list is fitting: every covered frame lies in exactly one row of its group, and no
-/// uncovered frame lies in any.
-pub fn fits(rows: &[Stretch], frames: &[Frame]) -> bool {
+/// Whether a list fits for a kind: every covered frame lies in exactly one row of its group, and
+/// no uncovered frame lies in any; by the kind of the greatest load no frame's value is above the
+/// number of its row.
+pub fn fits(rows: &[Stretch], frames: &[Frame], kind: u8) -> bool {
     let held_once = frames.iter().all(|(group, frame, _)| {
         rows.iter()
             .filter(|row| row.contains(*group, *frame))
@@ -24,7 +26,15 @@ pub fn fits(rows: &[Stretch], frames: &[Frame]) -> bool {
                 .any(|(group, covered, _)| *group == row.group && *covered == frame)
         })
     });
-    held_once && all_covered && rows.iter().all(|row| row.first <= row.last)
+    let nowhere_below = frames.iter().all(|(group, frame, value)| {
+        rows.iter()
+            .filter(|row| row.contains(*group, *frame))
+            .all(|row| *value <= row.value)
+    });
+    held_once
+        && all_covered
+        && rows.iter().all(|row| row.first <= row.last)
+        && (kind != GREATEST || nowhere_below)
 }
 
 /// The squared error of a fitting list, frame by frame.
@@ -47,13 +57,15 @@ fn joined(frames: &[Frame], i: usize) -> bool {
     one.0 == next.0 && one.1 + 1 == next.1
 }
 
-/// The numbers tried for a row: all from one below the least value to one above the greatest,
-/// and some negative ones.
-fn candidates(row: &[Frame]) -> impl Iterator<Item = i64> {
+/// The numbers tried for a row: all from one below the least value to two above the greatest,
+/// and some negative ones; by the kind of the greatest load those that no value is above.
+fn candidates(row: &[Frame], kind: u8) -> impl Iterator<Item = i64> + '_ {
     let least = row.iter().map(|f| i64::from(f.2)).min().unwrap_or(0);
     let greatest = row.iter().map(|f| i64::from(f.2)).max().unwrap_or(0);
     let negative = [-1000, -2, -1].into_iter().filter(move |x| *x < least - 1);
-    negative.chain(least - 1..=greatest + 1)
+    negative
+        .chain(least - 1..=greatest + 2)
+        .filter(move |x| kind != GREATEST || row.iter().all(|f| i64::from(f.2) <= *x))
 }
 
 /// The squared error of a row with a number.
@@ -71,16 +83,23 @@ fn keep_least(place: &mut Option<u64>, error: u64) {
 
 /// The least error of the fitting lists of exactly k rows, at place k: every cutting with every
 /// combination of numbers. For very few frames.
-pub fn least_by_lists(frames: &[Frame]) -> Vec<Option<u64>> {
-    fn go(frames: &[Frame], start: usize, rows: usize, error: u64, least: &mut [Option<u64>]) {
+pub fn least_by_lists(frames: &[Frame], kind: u8) -> Vec<Option<u64>> {
+    fn go(
+        (frames, kind): (&[Frame], u8),
+        start: usize,
+        rows: usize,
+        error: u64,
+        least: &mut [Option<u64>],
+    ) {
         if start == frames.len() {
             keep_least(&mut least[rows], error);
             return;
         }
         for end in start + 1..=frames.len() {
             let row = &frames[start..end];
-            for number in candidates(row) {
-                go(frames, end, rows + 1, error + row_error(row, number), least);
+            for number in candidates(row, kind) {
+                let error = error + row_error(row, number);
+                go((frames, kind), end, rows + 1, error, least);
             }
             if end < frames.len() && !joined(frames, end - 1) {
                 break;
@@ -88,19 +107,19 @@ pub fn least_by_lists(frames: &[Frame]) -> Vec<Option<u64>> {
         }
     }
     let mut least = vec![None; frames.len() + 1];
-    go(frames, 0, 0, 0, &mut least);
+    go((frames, kind), 0, 0, 0, &mut least);
     least
 }
 
 /// The least error that a row of frames start to end (excluded) can have, over the candidates.
-fn row_table(frames: &[Frame]) -> Vec<Vec<Option<u64>>> {
+fn row_table(frames: &[Frame], kind: u8) -> Vec<Vec<Option<u64>>> {
     let count = frames.len();
     (0..count)
         .map(|start| {
             let mut row = vec![None; count + 1];
             for end in start + 1..=count {
                 let part = &frames[start..end];
-                row[end] = candidates(part).map(|x| row_error(part, x)).min();
+                row[end] = candidates(part, kind).map(|x| row_error(part, x)).min();
                 if end < count && !joined(frames, end - 1) {
                     break;
                 }
@@ -112,14 +131,14 @@ fn row_table(frames: &[Frame]) -> Vec<Vec<Option<u64>>> {
 
 /// The same by every cutting; each row gets the best of its candidate numbers, since the errors
 /// of the rows add. For few frames.
-pub fn least_by_cuttings(frames: &[Frame]) -> Vec<Option<u64>> {
+pub fn least_by_cuttings(frames: &[Frame], kind: u8) -> Vec<Option<u64>> {
     let count = frames.len();
     let mut least = vec![None; count + 1];
     if count == 0 {
         least[0] = Some(0);
         return least;
     }
-    let rows = row_table(frames);
+    let rows = row_table(frames, kind);
     'cutting: for cuts in 0u32..1 << (count - 1) {
         // Bit i of `cuts` says that a row ends after frame i; the last frame always ends one.
         let ends = (1..=count).filter(|end| *end == count || cuts >> (end - 1) & 1 == 1);
@@ -139,9 +158,9 @@ pub fn least_by_cuttings(frames: &[Frame]) -> Vec<Option<u64>> {
 
 /// The same by a table over frames, for at most `limit` rows: for logs with more frames than can
 /// be cut in every way.
-pub fn least_by_table(frames: &[Frame], limit: usize) -> Vec<Option<u64>> {
+pub fn least_by_table(frames: &[Frame], kind: u8, limit: usize) -> Vec<Option<u64>> {
     let count = frames.len();
-    let rows = row_table(frames);
+    let rows = row_table(frames, kind);
     let mut reach: Vec<Option<u64>> = vec![None; count + 1];
     reach[0] = Some(0);
     let mut least = vec![reach[count]];
@@ -166,7 +185,12 @@ pub fn least_by_table(frames: &[Frame], limit: usize) -> Vec<Option<u64>> {
 /// The paper's choice among all reductions of a few segments, each tried: the rows of the least
 /// error, then the fewest rows, then the latest last cut, and so on. With `exactly` only
 /// reductions of so many rows are tried, otherwise those of at most so many.
-pub fn best_cutting(segments: &[Stretch], rows: usize, exactly: bool) -> Option<Vec<Stretch>> {
+pub fn best_cutting(
+    segments: &[Stretch],
+    kind: u8,
+    rows: usize,
+    exactly: bool,
+) -> Option<Vec<Stretch>> {
     let n = segments.len();
     if n == 0 {
         return Some(Vec::new());
@@ -189,7 +213,9 @@ pub fn best_cutting(segments: &[Stretch], rows: usize, exactly: bool) -> Option<
         if !allowed || across {
             continue;
         }
-        let error = blocks(segments, &ends).map(crate::error_of).sum();
+        let error = blocks(segments, &ends)
+            .map(|block| crate::error_of(block, kind))
+            .sum();
         let better = match &best {
             None => true,
             Some((least, chosen)) => {
@@ -202,7 +228,9 @@ pub fn best_cutting(segments: &[Stretch], rows: usize, exactly: bool) -> Option<
         }
     }
     best.map(|(_, ends)| {
-        let mut rows: Vec<Stretch> = blocks(segments, &ends).map(crate::row_of).collect();
+        let mut rows: Vec<Stretch> = blocks(segments, &ends)
+            .map(|block| crate::row_of(block, kind))
+            .collect();
         rows.reverse();
         rows
     })
@@ -226,9 +254,30 @@ mod tests {
     #[test]
     fn three_ways_agree() {
         let frames: Vec<Frame> = vec![(0, 3, 2), (0, 4, 0), (0, 5, 1), (0, 7, 4), (1, 8, 4)];
-        let lists = least_by_lists(&frames);
-        assert_eq!(lists, [None, None, None, Some(2), Some(1), Some(0)]);
-        assert_eq!(lists, least_by_cuttings(&frames));
-        assert_eq!(lists, least_by_table(&frames, 64));
+        let expected = [
+            (0, [None, None, None, Some(2), Some(1), Some(0)]),
+            (GREATEST, [None, None, None, Some(5), Some(1), Some(0)]),
+        ];
+        for (kind, least) in expected {
+            assert_eq!(least_by_lists(&frames, kind), least);
+            assert_eq!(least_by_cuttings(&frames, kind), least);
+            assert_eq!(least_by_table(&frames, kind, 64), least);
+        }
+    }
+
+    /// A row that is one below a value does not fit for the kind of the greatest load.
+    #[test]
+    fn one_below() {
+        let frames: Vec<Frame> = vec![(0, 0, 0), (0, 1, 4)];
+        let row = |value| Stretch {
+            group: 0,
+            first: 0,
+            last: 1,
+            value,
+        };
+        for value in 0..6 {
+            assert!(fits(&[row(value)], &frames, 0));
+            assert_eq!(fits(&[row(value)], &frames, GREATEST), value >= 4);
+        }
     }
 }

@@ -16,6 +16,8 @@ pub const ROWS: u8 = 0x52;
 pub const SHARE: u8 = 0x45;
 /// The greatest kind.
 pub const MOST_KIND: u8 = 4;
+/// The kind of the greatest load, whose rows must not fall short.
+pub const GREATEST: u8 = 3;
 
 /// The first question that got 'no', and the index of the record or row.
 #[derive(Clone, Copy, Debug, PartialEq, Eq)]
@@ -250,9 +252,19 @@ fn nearest(block: &[Stretch]) -> u64 {
     }
 }
 
+/// The row value of a block: by the kind of the greatest load its greatest value, by every other
+/// kind the nearest whole number.
+fn row_value(block: &[Stretch], kind: u8) -> u64 {
+    if kind == GREATEST {
+        block.iter().map(|s| u64::from(s.value)).max().unwrap_or(0)
+    } else {
+        nearest(block)
+    }
+}
+
 /// The error of a block: length times squared difference to the row value, summed.
-fn error_of(block: &[Stretch]) -> u64 {
-    let number = nearest(block);
+fn error_of(block: &[Stretch], kind: u8) -> u64 {
+    let number = row_value(block, kind);
     block
         .iter()
         .map(|s| s.length() * u64::from(s.value).abs_diff(number).pow(2))
@@ -260,12 +272,12 @@ fn error_of(block: &[Stretch]) -> u64 {
 }
 
 /// The row of a block.
-fn row_of(block: &[Stretch]) -> Stretch {
+fn row_of(block: &[Stretch], kind: u8) -> Stretch {
     Stretch {
         group: block[0].group,
         first: block[0].first,
         last: block[block.len() - 1].last,
-        value: nearest(block) as u32,
+        value: row_value(block, kind) as u32,
     }
 }
 
@@ -275,6 +287,7 @@ fn row_of(block: &[Stretch]) -> Stretch {
 /// The least errors E(k, i) of the first i segments in exactly k rows, for k from 1.
 pub struct Table<'a> {
     segments: &'a [Stretch],
+    kind: u8,
     /// The last gap below i, 0 if there is none, at place i.
     gap: Vec<usize>,
     /// The error of block j + 1 to i, none if a gap lies within, at places j and i.
@@ -289,7 +302,7 @@ pub struct Table<'a> {
 
 impl<'a> Table<'a> {
     /// A table with no row yet.
-    pub fn new(segments: &'a [Stretch]) -> Self {
+    pub fn new(segments: &'a [Stretch], kind: u8) -> Self {
         let n = segments.len();
         let mut gap = vec![0; n + 1];
         for i in 2..=n {
@@ -303,12 +316,13 @@ impl<'a> Table<'a> {
         let block = (0..n)
             .map(|j| {
                 (0..=n)
-                    .map(|i| (i > j && gap[i] <= j).then(|| error_of(&segments[j..i])))
+                    .map(|i| (i > j && gap[i] <= j).then(|| error_of(&segments[j..i], kind)))
                     .collect()
             })
             .collect();
         Table {
             segments,
+            kind,
             gap,
             block,
             least: Vec::new(),
@@ -385,7 +399,7 @@ impl<'a> Table<'a> {
         let mut end = self.segments.len();
         for k in (1..=k).rev() {
             let start = self.cut[k - 1][end];
-            rows.push(row_of(&self.segments[start..end]));
+            rows.push(row_of(&self.segments[start..end], self.kind));
             end = start;
         }
         rows.reverse();
@@ -401,9 +415,9 @@ pub struct Reduction {
     pub weighed: u64,
 }
 
-/// The best reduction of some segments under a row limit or a share, none if there are too few
-/// rows for it.
-pub fn reduce(segments: &[Stretch], rule: u8, bound: u16) -> Option<Reduction> {
+/// The best reduction of some segments under a row limit or a share, with row values by the kind;
+/// none if there are too few rows for it.
+pub fn reduce(segments: &[Stretch], kind: u8, rule: u8, bound: u16) -> Option<Reduction> {
     let n = segments.len();
     let m = runs(segments);
     let bound = usize::from(bound);
@@ -417,7 +431,7 @@ pub fn reduce(segments: &[Stretch], rule: u8, bound: u16) -> Option<Reduction> {
             weighed: 0,
         });
     }
-    let mut table = Table::new(segments);
+    let mut table = Table::new(segments, kind);
     let chosen = if rule == ROWS {
         while table.rows() < bound.min(n) {
             table.grow();
@@ -461,7 +475,7 @@ pub fn query(
         (3, 0, bounded),
     ])?;
     ask(log_questions(log))?;
-    reduce(&segments_of(&records(log), kind), rule, bound).ok_or(No {
+    reduce(&segments_of(&records(log), kind), kind, rule, bound).ok_or(No {
         question: 10,
         index: 0,
     })
@@ -637,6 +651,31 @@ mod tests {
         assert_eq!(segments(&[], 5, 255).unwrap_err().question, 2);
     }
 
+    /// Rows of the greatest load: the greatest value of a block, and the error taken from it. The
+    /// share's least error is 24,600 for G, where nearest means would have 14,943.
+    #[test]
+    fn greatest() {
+        let rows = |rule, bound, log: &[u8]| -> (Vec<u32>, u64) {
+            let answer = query(GREATEST, rule, bound, log, 768).unwrap();
+            let values = answer.rows.iter().map(|row| row.value).collect();
+            (values, answer.error)
+        };
+        let two = log(&[(0, 0, 0, 0), (0, 1, 1, 1)]);
+        assert_eq!(rows(ROWS, 1, &two), (vec![1], 1));
+        let steps = log(&[(0, 0, 2, 0), (0, 3, 4, 9)]);
+        assert_eq!(rows(ROWS, 1, &steps), (vec![9], 243));
+        let g = log_g();
+        assert_eq!(rows(ROWS, 3, &g), (vec![210, 50, 7], 24_600));
+        let four = (vec![100, 210, 50, 7], 400);
+        assert_eq!(rows(ROWS, 4, &g), four);
+        assert_eq!(rows(SHARE, 17, &g), four);
+        assert_eq!(rows(SHARE, 26, &g), four);
+        assert_eq!(rows(SHARE, 16, &g), (vec![100, 200, 210, 50, 7], 0));
+        // With the rule of another kind for row values.
+        let by_means = reduce(&segments(&g, GREATEST, 255).unwrap(), 0, ROWS, 3).unwrap();
+        assert_eq!((by_means.rows[0].value, by_means.error), (173, 14_943));
+    }
+
     /// The segments of the first source's running example, and its Figures 4 and 5.
     #[test]
     fn running_example() {
@@ -650,7 +689,7 @@ mod tests {
             (1, 7, 8, 500),
         ]);
         let segments = segments(&log, 0, 255).unwrap();
-        let mut table = Table::new(&segments);
+        let mut table = Table::new(&segments, 0);
         for _ in 0..4 {
             table.grow();
         }

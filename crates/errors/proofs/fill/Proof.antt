@@ -12,13 +12,13 @@ use Rattle.errors.proofs.fill.Statement.{statement}
 use Rattle.errors.proofs.fill.Tie as tie
 
 abbrev Inv-loop : tie.InvT-loop
-Inv-loop firsts lasts values gaps n errors₀ start₀ i₀ errors start i = Rows firsts lasts values gaps errors₀ n i start errors
+Inv-loop firsts lasts values gaps n kind errors₀ start₀ i₀ errors start i = Rows kind firsts lasts values gaps errors₀ n i start errors
 
 abbrev μ-loop : tie.MeasureT-loop
-μ-loop firsts lasts values gaps n errors₀ start₀ i₀ errors start i = n - i
+μ-loop firsts lasts values gaps n kind errors₀ start₀ i₀ errors start i = n - i
 
 loop-holds : tie.Need-loop-holds Inv-loop μ-loop
-loop-holds c = rows-begin _ _ _ _ _ _
+loop-holds c = rows-begin _ _ _ _ _ _ _
 
 add-start : tie.Need-add-start Inv-loop μ-loop
 add-start c = omega (arith, c .before .loop .inv .begins, start-le (c .before .loop .i) (omega (arith, c .before .before .before .pre .0 .few)))

@@ -16,14 +16,14 @@ use Rattle.errors.proofs.fill_row.Statement.{statement}
 use Rattle.errors.proofs.fill_row.Tie as tie
 
 abbrev Inv-loop : tie.InvT-loop
-Inv-loop firsts lasts values low i start errors₀ block₀ at₀ errors block at = (low ≤ at) × (at ≤ i) × (totalsIn block ≡ model.totals (blockIn firsts lasts values at i)) × EndingAt firsts lasts values at i start errors₀ errors
+Inv-loop firsts lasts values low i kind start errors₀ block₀ at₀ errors block at = (low ≤ at) × (at ≤ i) × (totalsIn block ≡ model.totals (blockIn firsts lasts values at i)) × EndingAt kind firsts lasts values at i start errors₀ errors
 
 abbrev μ-loop : tie.MeasureT-loop
-μ-loop firsts lasts values low i start errors₀ block₀ at₀ errors block at = at
+μ-loop firsts lasts values low i kind start errors₀ block₀ at₀ errors block at = at
 
 loop-holds : tie.Need-loop-holds Inv-loop μ-loop
 unfolding model.totals model.empty totalsIn
-loop-holds c = (c .before .pre .0 .0, omega arith, rw (block-empty (spanIn _ _ _ _) (c .before .args .i)), row-begins _ _ _ _ _ _)
+loop-holds c = (c .before .pre .0 .0, omega arith, rw (block-empty (spanIn _ _ _ _) (c .before .args .i)), row-begins _ _ _ _ _ _ _)
 
 -- the block with the segment before `at`
 wider : (c : tie.After-with-segment Inv-loop μ-loop)
@@ -47,7 +47,7 @@ loop-again c =
       omega arith,
       omega arith,
       wider (c .before),
-      row-next _ _ _ _ _ _ (l .loop .inv .3) (omega arith) (omega arith) (omega arith) (block-error _ _ _ (wider (c .before)) (c .error .ensures)),
+      row-next _ _ _ _ _ _ _ (l .loop .inv .3) (omega arith) (omega arith) (omega arith) (block-error _ _ _ _ (wider (c .before)) (c .error .ensures)),
     )
 
 error-requires : tie.Need-error-requires Inv-loop μ-loop

@@ -13,7 +13,7 @@ error-requires : tie.Need-error-requires
 error-requires c κs = subst Block (sym (c .block-totals .ensures)) (c .before .pre .blocks 0 (c .before .args .n) (omega arith) (omega arith))
 
 returns : tie.Need-returns
-returns c = block-error _ _ _ (c .before .block-totals .ensures) (c .error .ensures)
+returns c = block-error _ _ _ _ (c .before .block-totals .ensures) (c .error .ensures)
 
 pub whole-spec : {M : Type 1} → statement M
 whole-spec = tie.close (tie.spec block-totals-requires error-requires returns)

@@ -63,10 +63,10 @@ measured c = rw (found c) (logs-measured ((Decoded c) .before .before .args .que
 -- the reduction that was found, with its cuts
 answer : (c : tie.Else1) →
     let f = c .before .before .before .before .before .before .before .before in
-    Answers (seg f) (f .find .result) ((Decoded f) .before .before .args .query .bound) (c .before .before .reduce .result) (c .before .before .reduce .last .1 .1 .1 .1 .1 .1 .0)
+    Answers ((Decoded f) .before .before .args .query .kind) (seg f) (f .find .result) ((Decoded f) .before .before .args .query .bound) (c .before .before .reduce .result) (c .before .before .reduce .last .1 .1 .1 .1 .1 .1 .1 .0)
 answer c =
     let f = c .before .before .before .before .before .before .before .before in
-    answers (seg f) (f .find .result) (measured f) (c .before .before .reduce .ensures) (not-false _ (c .if1 .left))
+    answers _ (seg f) (f .find .result) (measured f) (c .before .before .reduce .ensures) (not-false _ (c .if1 .left))
 
 -- has at most 64 rows
 few : (c : tie.Else1) → c .before .before .reduce .result .count ≤ 64
@@ -74,7 +74,7 @@ unfolding orderQuestions ask logSegments
 few c =
     let f = c .before .before .before .before .before .before .before .before in
     let s = (Decoded f) .before .before in
-    let counted = subst (λ (segs : List (Span ℕ)). countFor (s .args .query .bound) segs ≡ some (c .before .before .reduce .result .count)) (found f) (answer c .counted) in
+    let counted = subst (λ (segs : List (Span ℕ)). countFor (s .args .query .kind) (s .args .query .bound) segs ≡ some (c .before .before .reduce .result .count)) (found f) (answer c .counted) in
     let le = count-le (s .args .query .kind) (records (s .args .log .now)) (s .args .query .bound) (c .before .before .reduce .result .count) counted in
     let limit = limit-le (s .args .query .bound) (all-head _ _ (all-tail _ _ (s .pre))) in
     omega arith
@@ -106,7 +106,7 @@ unfolding laidOut slotLength
 returns c =
     let r = c .before .before .before .before in
     let f = r .before .before .before .before .before .before in
-    let none-here = unanswered (seg f) (f .find .result) (measured f) (r .reduce .ensures) (not-true _ (c .before .before .if1 .taken)) in
+    let none-here = unanswered _ (seg f) (f .find .result) (measured f) (r .reduce .ensures) (not-true _ (c .before .before .if1 .taken)) in
     rw (c .before .refused .ensures, c .no-slot .ensures, ← found f, none-here)
 
 between-requires : tie.Need-between-requires
@@ -125,7 +125,7 @@ returns-2 c =
     let q = (Decoded f) .before .before .args .query in
     c .lay-out .ensures
     ∙ laid-rows (q .kind) (seg f) (f .find .result) (answer e) _ (c .before .between .ensures)
-    ∙ ap (λ (segs : List (Span ℕ)). laidOut (q .kind) (reduced (q .bound) segs)) (found f)
+    ∙ ap (λ (segs : List (Span ℕ)). laidOut (q .kind) (reduced (q .kind) (q .bound) segs)) (found f)
 
 pub reduce-spec : {M : Type 1} → statement M
 reduce-spec =

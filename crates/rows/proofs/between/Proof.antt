@@ -13,10 +13,10 @@ use Rattle.rows.proofs.between.Statement.{statement}
 use Rattle.rows.proofs.between.Tie as tie
 
 abbrev Inv-loop : tie.InvT-loop
-Inv-loop cuts groups firsts lasts values count n made₀ next₀ made next = (next ≤ count) × (made ≡ rowArray (listFrom 0 next (rowBetween (spanIn groups firsts lasts values) cuts count n)))
+Inv-loop cuts groups firsts lasts values count n kind made₀ next₀ made next = (next ≤ count) × (made ≡ rowArray (listFrom 0 next (rowBetween kind (spanIn groups firsts lasts values) cuts count n)))
 
 abbrev μ-loop : tie.MeasureT-loop
-μ-loop cuts groups firsts lasts values count n made₀ next₀ made next = count - next
+μ-loop cuts groups firsts lasts values count n kind made₀ next₀ made next = count - next
 
 -- the segments
 abbrev seg : tie.Start Inv-loop μ-loop → ℕ → Span ℕ
@@ -72,7 +72,7 @@ loop-again c =
     let loop = e .before .before .before .before in
     let s = loop .before .before in (
       omega arith,
-      row-stored (seg s) (s .args .cuts .now) (s .args .count) (s .args .n) (loop .loop .next) (e .before .wide .result) (e .end .result) _ _ (omega arith) (loop .loop .inv .1)
+      row-stored (s .args .kind) (seg s) (s .args .cuts .now) (s .args .count) (s .args .n) (loop .loop .next) (e .before .wide .result) (e .end .result) _ _ (omega arith) (loop .loop .inv .1)
           (e .before .wide .ensures) (is-end e) (c .row .ensures),
     )
 

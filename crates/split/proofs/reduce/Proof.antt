@@ -23,7 +23,7 @@ returns : tie.Need-returns
 returns c =
     let s = c .before .before in
     let a = s .args in
-    let nothing = no-segments (errorOf (segs s)) (gapBelow (segs s)) (a .n) (runs (segs s)) (a .bound) (a .cuts .now) (c .before .if1 .taken) (no-runs (a .groups .now) (a .firsts .now) (a .lasts .now) (a .values .now) (a .n) (c .before .if1 .taken)) in
+    let nothing = no-segments (errorOf (a .kind) (segs s)) (gapBelow (segs s)) (a .n) (runs (segs s)) (a .bound) (a .cuts .now) (c .before .if1 .taken) (no-runs (a .groups .now) (a .firsts .now) (a .lasts .now) (a .values .now) (a .n) (c .before .if1 .taken)) in
     reduces (c .nothing .ensures ∙ nothing .0, nothing .1)
 
 runs-requires : tie.Need-runs-requires
@@ -40,7 +40,7 @@ returns-2 c =
     let r = c .before .before .before in
     let s = r .before .before in
     let few = sym (c .before .before .covers-runs .ensures) ∙ not-true _ (c .before .if2 .taken) in
-    let none-here = too-few (errorOf (segs s)) (gapBelow (segs s)) (s .args .n) (runs (segs s)) (s .args .bound) (s .args .cuts .now) (rw (r .runs .ensures (s .args .values .now)) at few) in
+    let none-here = too-few (errorOf (s .args .kind) (segs s)) (gapBelow (segs s)) (s .args .n) (runs (segs s)) (s .args .bound) (s .args .cuts .now) (rw (r .runs .ensures (s .args .values .now)) at few) in
     reduces (c .refused .ensures ∙ none-here .0, none-here .1)
 
 -- the runs are counted, and each may have a row

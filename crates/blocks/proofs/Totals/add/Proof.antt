@@ -1,6 +1,6 @@
 -- `Totals::add` meets its contract. Assumes nothing.
-use mathlib.Core.Path.{refl}
 use native.Mathlib.Omega.{arith}
+use borrow.Author.Needs.{needs}
 use Rattle.model.specs.Blocks.{add}
 use Rattle.blocks.specs.Meaning.{totalsIn}
 use Rattle.blocks.proofs.Totals.add.Statement.{statement}
@@ -18,9 +18,12 @@ add-t5 : tie.Need-add-t5
 unfolding totalsIn add
 add-t5 c = omega arith
 
+greater-requires : tie.Need-greater-requires
+greater-requires c κs = search needs
+
 returns : tie.Need-returns
 unfolding totalsIn add
-returns c = refl
+returns c = rw (c .greater .ensures)
 
 pub add-spec : {M : Type 1} → statement M
-add-spec = tie.close (tie.spec add-t3 add-t4 add-t5 returns)
+add-spec = tie.close (tie.spec add-t3 add-t4 add-t5 greater-requires returns)

@@ -1,6 +1,8 @@
 -- `Totals::error` meets its contract. Assumes nothing.
+use Prim.Native.Nat.{ℕ}
+use mathlib.Core.Path.{ap}
 use native.Mathlib.Omega.{arith}
-use Rattle.blocks.specs.Meaning.{totalsIn, errorFrom}
+use Rattle.blocks.specs.Meaning.{totalsIn, errorBy, errorFrom}
 use Rattle.blocks.proofs.Bounds.{Products, products}
 use Rattle.blocks.proofs.Totals.error.Statement.{statement}
 use Rattle.blocks.proofs.Totals.error.Tie as tie
@@ -8,7 +10,7 @@ use Rattle.blocks.proofs.Totals.error.Tie as tie
 -- the row value's products
 made : (c : tie.After-row-value) → Products (c .row-value .result) (totalsIn (c .before .args .self))
 unfolding totalsIn
-made c = products _ (c .before .pre) (c .row-value .result) (c .row-value .ensures)
+made c = products _ (c .before .pre) (c .row-value .ensures)
 
 row-value-requires : tie.Need-row-value-requires
 row-value-requires c κs = c .pre .room
@@ -38,8 +40,10 @@ unfolding totalsIn
 sub-result c = let p = made (c .before .before .before) in let room = c .before .before .before .before .pre .room in omega arith
 
 returns : tie.Need-returns
-unfolding totalsIn errorFrom
-returns c = rw (← (c .before .before .before .row-value .ensures))
+unfolding totalsIn errorFrom errorBy
+returns c =
+    let v = c .before .before .before in
+    ap (λ (r : ℕ). errorBy r (totalsIn (v .before .args .self))) (v .row-value .ensures)
 
 pub error-spec : {M : Type 1} → statement M
 error-spec =

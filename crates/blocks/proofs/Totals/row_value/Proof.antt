@@ -1,36 +1,21 @@
 -- `Totals::row_value` meets its contract. Assumes nothing.
-use native.Mathlib.Omega.{arith}
+use mathlib.Core.Path.{_∙_}
 use borrow.Author.Needs.{needs}
+use Rattle.theory.proofs.RowValues.{of-greatest, of-others}
 use Rattle.blocks.specs.Meaning.{totalsIn}
-use Rattle.blocks.proofs.Bounds.{nearest-none, nearest-by-division}
 use Rattle.blocks.proofs.Totals.row_value.Statement.{statement}
 use Rattle.blocks.proofs.Totals.row_value.Tie as tie
 
+nearest-mean-requires : tie.Need-nearest-mean-requires
+nearest-mean-requires c κs = search needs
+
 returns : tie.Need-returns
 unfolding totalsIn
-returns c = nearest-none _ _ (omega arith) (omega arith)
-
-mul-result : tie.Need-mul-result
-unfolding totalsIn
-mul-result c = let room = c .before .before .before .pre in omega arith
-
-add-result : tie.Need-add-result
-unfolding totalsIn
-add-result c = let room = c .before .before .before .before .pre in omega arith
-
-sub-result : tie.Need-sub-result
-sub-result c = search needs
-
-mul-result-2 : tie.Need-mul-result-2
-unfolding totalsIn
-mul-result-2 c = let room = c .before .before .before .before .before .pre in omega arith
-
-div-result : tie.Need-div-result
-div-result c = search needs
+returns c = of-greatest _ _ (c .if1 .taken)
 
 returns-2 : tie.Need-returns-2
-returns-2 c = nearest-by-division _ _ (omega arith)
+unfolding totalsIn
+returns-2 c = c .nearest-mean .ensures ∙ of-others _ _ (c .before .if1 .left)
 
 pub row-value-spec : {M : Type 1} → statement M
-row-value-spec =
-    tie.close (tie.spec returns mul-result add-result sub-result mul-result-2 div-result returns-2)
+row-value-spec = tie.close (tie.spec nearest-mean-requires returns returns-2)

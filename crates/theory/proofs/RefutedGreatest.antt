@@ -1,0 +1,161 @@
+-- Wrong answers of kind 3 that the demands reject, each by the clause that its comment names. Log G by kind 3 has the segments 100,
+-- 200, 210, 50 and 7; three rows have the least error 24,600 and four have 400. With nearest means in their place three rows would
+-- have 14,943. Assumes nothing.
+use Prim.Native.Nat.{ℕ}
+use mathlib.Core.List.{List, [], _∷_, _++_, map, List·Memᴰ·head, List·Memᴰ·tail, List·Memᴰ·eq-of-singleton}
+use mathlib.Core.Option.{Option, some}
+use mathlib.Core.Path.{_≡_, refl, sym, _∙_, subst}
+use native.Mathlib.Omega.{arith}
+use lib.IntN.{ℤ, pos, negsuc}
+use lib.ListN.{length, replicate}
+use Rattle.model.specs.Common.{sumOf, listFrom, numberAt, bytesOf}
+use Rattle.model.specs.Spans.{Span, groupCount, frameCount, spanLength, meets, holds, adjacent}
+use Rattle.model.specs.Log.{recordLength, recordBytes, recordAt, recordCount, records, meeting, aggregate, greatestKind, aggregated, value}
+use Rattle.model.specs.Blocks.{segmentAt, gap, lastGap, block, empty, totalsOf, add, totals, nearest, valueFor, rowValue, squared, errorWith, blockError, rowOf}
+use Rattle.model.specs.Split.{Reduced, rowsOf, errorOf, gapBelow, mostRows}
+use Rattle.model.specs.Reductions.{IsReduction, reductionError}
+use Rattle.model.specs.Slot.{slotLength, rowBytes, rowsBytes, usedBytes, slotBytes, rowPlace, slotKind, slotCount, slotError, slotRow, slotRows, valueIn}
+use Rattle.model.specs.Questions.{refused, accepted, ask, askRoom, outcome, lent, each, marked, kindKnown, groupKnown, spanQuestions, recordQuestions, mostRecords, logQuestions}
+use Rattle.model.specs.Questions.{follows, inOrder, rowKnown, rowQuestions, zeros, tailZero, slotQuestions}
+use Rattle.model.specs.Calls.{Counts, logSegments, readOutcome, readRows}
+use Rattle.model.specs.Guarantee.{Choices, LeastOfFewest, BestOfLimit, BestOfShare}
+use Rattle.model.specs.Fitting.{FitsFor}
+use Rattle.model.specs.Demands.{AllPass, Cut, QueryPromise, whole}
+use Rattle.model.specs.declared.Bound.the-variants.{Rows}
+use Rattle.model.proofs.Cases.{span, log-G, segments-G3, four-G3, runs-G3, bytes, query, worked-cases}
+use Rattle.theory.proofs.Tests.{some-inj}
+use Rattle.theory.proofs.Refusals.{outcome-accepted, accepted≢refused}
+use Rattle.theory.proofs.Guarantee.{one-least}
+use Rattle.theory.proofs.Demands.{demand2}
+use Rattle.theory.proofs.Refutations.{decoded, lists-of, best-G, least-of-three}
+
+abbrev val-G3 : ℕ → ℕ → Option ℕ
+val-G3 = value greatestKind log-G
+
+abbrev lists-G3 : Choices (List (Span ℤ))
+lists-G3 = lists-of greatestKind
+
+-- what the worked cases say of G by kind 3: three rows, and four
+three-best : BestOfLimit lists-G3 3 24600 (map whole runs-G3)
+three-best =
+    let three = worked-cases .2 .1 .0 .1 in
+    best-G greatestKind (Rows 3) (record { rows = runs-G3; error = 24600; weighed = 8 }) (three .0) (three .1)
+
+four-best : BestOfLimit lists-G3 4 400 (map whole four-G3)
+four-best =
+    let four = worked-cases .2 .1 .1 .0 .1 in
+    best-G greatestKind (Rows 4) (record { rows = four-G3; error = 400; weighed = 10 }) (four .0) (four .1)
+
+-- so the least error of the fewest rows is 24,600
+least-G3 : LeastOfFewest lists-G3 24600
+unfolding kindKnown
+least-G3 = least-of-three greatestKind 24600 runs-G3 refl (worked-cases .2 .0 .1 .0) three-best refl
+
+only-least-G3 : (L : ℕ) → LeastOfFewest lists-G3 L → L ≡ 24600
+only-least-G3 L is = omega (arith, one-least lists-G3 L 24600 is least-G3, one-least lists-G3 24600 L least-G3 is)
+
+-- ---- lists that do not fit
+
+-- G in three rows, the first with this number
+abbrev three-rows : ℤ → List (Span ℤ)
+three-rows z = record { group = 0; first = 0; last = 6; value = z } ∷ map whole (span 0 9 10 50 ∷ span 1 0 0 7 ∷ [])
+
+-- one below the greatest value, and a negative number (nowhereBelow)
+pub one-below-greatest : FitsFor greatestKind val-G3 (three-rows (pos 209)) → ⊥
+unfolding groupCount frameCount meets holds meeting aggregated aggregate value valueIn
+one-below-greatest f = omega (arith, f .nowhereBelow refl 0 6 210 (pos 209) refl refl)
+
+pub negative-row : FitsFor greatestKind val-G3 (three-rows (negsuc 0)) → ⊥
+unfolding groupCount frameCount meets holds meeting aggregated aggregate value valueIn
+negative-row f = f .nowhereBelow refl 0 6 210 (negsuc 0) refl refl
+
+-- ---- a row limit
+
+-- the nearest mean, 173, though its error is smaller (fits)
+pub mean-not-best : BestOfLimit lists-G3 3 14943 (three-rows (pos 173)) → ⊥
+unfolding groupCount frameCount meets holds meeting aggregated aggregate value valueIn
+mean-not-best b = omega (arith, b .fits .nowhereBelow refl 0 6 210 (pos 173) refl refl)
+
+-- one above the greatest value, which fits (least)
+pub above-greatest-not-best : BestOfLimit lists-G3 3 25127 (three-rows (pos 211)) → ⊥
+above-greatest-not-best b =
+    omega (arith, b .least (map whole runs-G3) (three-best .fits) (three-best .count), three-best .is)
+
+-- ---- a share
+
+-- of the least error with nearest means (isLeast)
+pub least-by-means : LeastOfFewest lists-G3 14943 → ⊥
+least-by-means is = omega (arith, only-least-G3 14943 is)
+
+-- p = 17: by that error five rows would be due, and four do (fewest)
+pub five-rows-for-17 : BestOfShare lists-G3 17 0 (map whole segments-G3) → ⊥
+five-rows-for-17 b =
+    let error = four-best .is in
+    b .fewest (map whole four-G3) (four-best .fits) (omega arith)
+    (record { of = 24600; isLeast = least-G3; met = omega arith })
+
+-- p = 16: four rows exceed it (met)
+pub four-rows-for-16 : BestOfShare lists-G3 16 400 (map whole four-G3) → ⊥
+four-rows-for-16 b =
+    let error = four-best .is in
+    let of = only-least-G3 (b .met .of) (b .met .isLeast) in
+    let met = b .met .met in
+    omega arith
+
+-- ---- rows that fall short
+
+-- a slot of G in three rows by the nearest mean: frame 6 needs 210 (neverShort)
+means-read : valueIn (readRows (slotBytes greatestKind 14943 (span 0 0 6 173 ∷ span 0 9 10 50 ∷ span 1 0 0 7 ∷ []))) 0 6 ≡ some 173
+unfolding listFrom numberAt bytesOf slotLength rowBytes rowsBytes usedBytes slotBytes rowPlace slotKind slotCount slotError slotRow slotRows ask lent each marked askRoom kindKnown groupKnown mostRows follows inOrder rowKnown rowQuestions zeros tailZero slotQuestions readRows valueIn holds meets
+means-read = refl
+
+needed : value greatestKind (records (bytes log-G)) 0 6 ≡ some 210
+unfolding groupCount frameCount meets meeting aggregated aggregate value
+needed = rw decoded
+
+pub falls-short : (counts : Counts)
+    → QueryPromise (query greatestKind (Rows 3)) (bytes log-G) (replicate 768 0) (accepted counts)
+    (slotBytes greatestKind 14943 (span 0 0 6 173 ∷ span 0 9 10 50 ∷ span 1 0 0 7 ∷ []))
+    → ⊥
+falls-short counts p =
+    let (r, is, enough) = p .neverShort counts refl refl 0 6 210 needed in
+    let same : r ≡ 173 = some-inj is means-read in
+    omega arith
+
+-- ---- demand 2
+
+-- a row value above the only value of its block (between), and one of kind 3 below a value of its block (greatest)
+pub row-above-block : (kind : ℕ) → rowValue kind (span 0 0 0 5 ∷ []) ≡ 6 → ⊥
+unfolding totals empty add totalsOf spanLength
+row-above-block kind e =
+    omega (arith, demand2 .between kind 5 5 (span 0 0 0 5 ∷ []) (omega arith) (λ s m. rw (List·Memᴰ·eq-of-singleton m) (omega arith, omega arith)) .1)
+
+-- loads 0 and 1
+abbrev loads : List (Span ℕ)
+loads = span 0 0 0 0 ∷ span 0 1 1 1 ∷ []
+
+pub row-below-block : rowValue greatestKind loads ≡ 0 → ⊥
+row-below-block e = omega (arith, demand2 .greatest loads (span 0 1 1 1) (List·Memᴰ·tail (List·Memᴰ·head refl)))
+
+-- the slot of kind 3 that was written for these loads in one row: value 0, error 1
+abbrev earlier : Reduced
+earlier = record { rows = span 0 0 1 0 ∷ []; error = 1; weighed = 0 }
+
+earlier-cut : Cut 0 loads earlier (0 ∷ []) × IsReduction (gapBelow loads) 2 (0 ∷ [])
+unfolding rowsOf rowOf errorOf reductionError blockError errorWith rowValue valueFor nearest totals totalsOf add empty spanLength squared sumOf block listFrom segmentAt gapBelow lastGap gap adjacent
+earlier-cut = (record { rows = refl; error = refl }, (omega arith, omega arith, refl))
+
+earlier-logged : AllPass (logQuestions (bytes loads))
+unfolding logQuestions recordCount recordLength mostRecords each recordQuestions spanQuestions marked groupKnown recordAt numberAt recordBytes bytesOf ask outcome
+earlier-logged = outcome-accepted (logQuestions (bytes loads)) (tt {0}) (tt {0}) refl .0
+
+-- refused (stillRead)
+pub earlier-slot-refused : (number index : ℕ) → readOutcome (slotBytes greatestKind 1 (span 0 0 1 0 ∷ []) ++ []) ≡ refused number index → ⊥
+unfolding kindKnown mostRows
+earlier-slot-refused number index e =
+    let found : logSegments greatestKind (bytes loads) ≡ loads = worked-cases .2 .1 .1 .1 .1 .0 .0 in
+    let (cut, is) = earlier-cut in
+    let reads = demand2 .stillRead 0 greatestKind (bytes loads) (0 ∷ []) [] earlier refl earlier-logged
+    (subst (λ segs. Cut 0 segs earlier (0 ∷ [])) (sym found) cut)
+    (subst (λ segs. IsReduction (gapBelow segs) (length segs) (0 ∷ [])) (sym found) is) (omega arith) in
+    accepted≢refused (sym (reads .header) ∙ e)
