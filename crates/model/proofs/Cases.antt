@@ -318,12 +318,6 @@ slot-cases =
     ∷ 0x50 ∷ 0x52 ∷ 7 ∷ 1 ∷ 2 ∷ 3 ∷ 4 ∷ 0 ∷ 0xF4 ∷ 1 ∷ 0 ∷ [])
     (header 4 0x0807060504030201 1) (span 7 0x0201 0x0403 0x01F400 ∷ [])
     ∷
-    -- kind 3, loads 0 and 1 in a row that holds the nearest mean, as it was written before rows of kind 3 held the greatest value
-    slotCase 3 1 (span 0 0 1 0 ∷ [])
-    (0x50 ∷ 0x48 ∷ 3 ∷ 1 ∷ 1 ∷ 0 ∷ 0 ∷ 0 ∷ 0 ∷ 0 ∷ 0 ∷ 0
-    ∷ 0x50 ∷ 0x52 ∷ 0 ∷ 0 ∷ 0 ∷ 1 ∷ 0 ∷ 0 ∷ 0 ∷ 0 ∷ 0 ∷ [])
-    (header 3 1 1) (span 0 0 1 0 ∷ [])
-    ∷
     -- kind 5: question 12
     slotCase 5 0 [] (0x50 ∷ 0x48 ∷ 5 ∷ []) (refused 12 0) []
     ∷
@@ -380,7 +374,7 @@ RecordHolds c =
 pub byte-cases : All SlotHolds slot-cases × All RecordHolds record-cases
 unfolding listFrom numberAt bytesOf slotLength rowBytes rowsBytes usedBytes slotBytes rowPlace slotKind slotCount slotError slotRow slotRows ask outcome lent each marked askRoom kindKnown groupKnown spanQuestions mostRows follows inOrder rowKnown rowQuestions zeros tailZero slotQuestions readOutcome readRows recordLength recordBytes writeQuestions writeOutcome writtenBuffer
 byte-cases = (
-  ((refl, refl, refl), ((refl, refl, refl), ((refl, refl, refl), ((refl, refl, refl), ((refl, refl, refl), tt))))),
+  ((refl, refl, refl), ((refl, refl, refl), ((refl, refl, refl), ((refl, refl, refl), tt)))),
   ((refl, refl), ((refl, refl), ((refl, refl), ((refl, refl), ((refl, refl), ((refl, refl), tt)))))),
 )
 

@@ -13,7 +13,7 @@ use Rattle.model.specs.Spans.{Span, spanLength, adjacent}
 use Rattle.model.specs.Log.{records, meeting, sum, greatestKind, value}
 use Rattle.model.specs.Blocks.{segmentAt, gap, totals, rowValue}
 use Rattle.model.specs.Split.{Reduced, errorOf, gapBelow, runs, rowsOf, mostRows}
-use Rattle.model.specs.Reductions.{IsReduction, Merges, BestWithin, FewestWithin, reductionError}
+use Rattle.model.specs.Reductions.{IsReduction, Merges, IsAnswer, reductionError}
 use Rattle.model.specs.Slot.{slotLength, slotBytes, valueIn}
 use Rattle.model.specs.Questions.{Question, Outcome, refused, accepted, kindKnown, boundKnown, rowKnown, follows}
 use Rattle.model.specs.Questions.{logQuestions, orderQuestions, writeQuestions, segmentsQuestions, queryQuestions, slotQuestions, lookupQuestions, mostSegments}
@@ -22,7 +22,6 @@ use Rattle.model.specs.Calls.{cutsWeighed, queryWeighed, boundOf, byLett
 use Rattle.model.specs.Guarantee.{Choices, LeastOfFewest, BestRows, NoRows}
 use Rattle.model.specs.Fitting.{hits, due, FitsFor, rowLists}
 use Rattle.model.specs.declared.Bound.{Bound}
-use Rattle.model.specs.declared.Bound.the-variants.{Rows, Share}
 use Rattle.model.specs.declared.Query.{Query}
 use Rattle.model.specs.declared.Segment.{Segment}
 use Rattle.model.specs.declared.Row.{Row}
@@ -94,15 +93,14 @@ pub record MeanInHundredths (loads : List ℕ) (v : ℕ) : Type 0 where
   pub notAbove : v * length loads ≤ 100 * sum loads
   pub lessThanOneBelow : 100 * sum loads < suc v * length loads
 
--- the rows and error of a reduction with these cuts
+-- the rows and error of a reduction with these cuts, by the kind's row values
 pub record Cut (kind : ℕ) (segs : List (Span ℕ)) (a : Reduced) (cuts : List ℕ) : Type 0 where
   pub rows : a .rows ≡ rowsOf kind (segmentAt segs) (length segs) cuts
   pub error : a .error ≡ reductionError (errorOf kind segs) (length segs) cuts
 
 -- the reduction that a bound asks for, of these segments
 abbrev pub Reduces : ℕ → Bound → List (Span ℕ) → List ℕ → Type 0
-Reduces kind (Rows c) segs cuts = BestWithin (errorOf kind segs) (gapBelow segs) (length segs) c cuts
-Reduces kind (Share p) segs cuts = FewestWithin (errorOf kind segs) (gapBelow segs) (length segs) p (runs segs) cuts
+Reduces kind bound segs cuts = IsAnswer (errorOf kind segs) (gapBelow segs) (length segs) (runs segs) bound cuts
 
 -- what a slot can hold
 pub record Storable (kind error : ℕ) (rows : List (Span ℕ)) : Type 0 where

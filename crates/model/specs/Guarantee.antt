@@ -33,7 +33,7 @@ module _ {A : Type 0} (choices : Choices A) where
   pub record BestOfLimit (c error : ℕ) (choice : A) : Type 0 where
     pub fits : choices .fits choice
     pub count : choices .size choice ≤ c
-    pub is : choices .error choice ≡ error
+    pub hasError : choices .error choice ≡ error
     pub least : (other : A) → choices .fits other → choices .size other ≤ c → error ≤ choices .error other
     pub fewest : (other : A) → choices .fits other → choices .size other ≤ c → choices .error other ≡ error
         → choices .size choice ≤ choices .size other
@@ -42,7 +42,7 @@ module _ {A : Type 0} (choices : Choices A) where
   -- not do
   pub record BestOfShare (p error : ℕ) (choice : A) : Type 0 where
     pub fits : choices .fits choice
-    pub is : choices .error choice ≡ error
+    pub hasError : choices .error choice ≡ error
     pub met : WithinShare p choice
     pub least : (other : A) → choices .fits other → choices .size other ≡ choices .size choice → error ≤ choices .error other
     pub fewest : (other : A) → choices .fits other → choices .size other < choices .size choice → Exceeds p other

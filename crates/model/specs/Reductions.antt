@@ -7,6 +7,8 @@ use mathlib.Core.List.{List, [], _∷_, _++_}
 use mathlib.Core.Logic.{_⊎_}
 use mathlib.Core.Path.{_≡_}
 use lib.ListN.{length}
+use Rattle.model.specs.declared.Bound.{Bound}
+use Rattle.model.specs.declared.Bound.the-variants.{Rows, Share}
 
 -- no block is empty, none crosses a gap, and the first begins at 0
 abbrev pub IsReduction : (ℕ → ℕ) → ℕ → List ℕ → Type 0
@@ -76,3 +78,8 @@ module _ (err : ℕ → ℕ → ℕ) (low : ℕ → ℕ) (n : ℕ) where
     pub least : (other : List ℕ) → IsReduction low n other → length other ≡ length cuts
         → reductionError err n cuts ≤ reductionError err n other
     pub latest : IsLatest cuts
+
+  -- the answer to a bound, where there are m runs
+  abbrev pub IsAnswer : ℕ → Bound → List ℕ → Type 0
+  IsAnswer m (Rows c) cuts = BestWithin c cuts
+  IsAnswer m (Share p) cuts = FewestWithin p m cuts

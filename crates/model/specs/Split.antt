@@ -125,6 +125,7 @@ pub record Reduced : Type 0 where
   pub error : ℕ
   pub weighed : ℕ
 
+-- the error of the block from j up to i, by the kind's row value
 unfoldable pub errorOf : ℕ → List (Span ℕ) → ℕ → ℕ → ℕ
 errorOf kind segs j i = blockError kind (block (segmentAt segs) j i)
 

@@ -2,7 +2,7 @@
 -- kind. Assumes nothing.
 use Prim.Native.Nat.{ℕ, _≤_, _<_}
 use mathlib.Core.Bool.{false}
-use mathlib.Core.List.{List, [], _∷_, _++_, map}
+use mathlib.Core.List.{List, [], _∷_, _++_, map, map-append}
 use mathlib.Core.Logic.{_↔_}
 use mathlib.Core.Option.{Option, some}
 use mathlib.Core.Path.{_≡_, refl, sym, ap, _∙_}
@@ -21,7 +21,6 @@ use Rattle.model.specs.Guarantee.{LeastOfFewest, BestRows, NoRows}
 use Rattle.model.specs.Fitting.{due, squaredError, FitsFor, rowLists}
 use Rattle.model.specs.Demands.{Cut, Reduces, whole}
 use Rattle.model.specs.declared.Bound.{Bound}
-use Rattle.model.specs.declared.Bound.the-variants.{Rows, Share}
 use Rattle.theory.proofs.Tests.{cases, is-none}
 use Rattle.theory.proofs.Frames.{value-inside}
 use Rattle.theory.proofs.Cost.{costOf, errorIn, bestRow, bestRows, errorUnder}
@@ -32,7 +31,7 @@ use Rattle.theory.proofs.Converse.{fits, allowed, error, count}
 use Rattle.theory.proofs.Labels.{labelled-frame}
 use Rattle.theory.proofs.Cutting.{no-better}
 use Rattle.theory.proofs.Bounds.{by-number}
-use Rattle.theory.proofs.Guarantee.{limitOf, ReducesBy, ByReductions}
+use Rattle.theory.proofs.Guarantee.{limitOf, ByReductions}
 use Rattle.theory.proofs.Guarantee as guarantee
 
 -- ---- the answer is the reduction that the bound asks for
@@ -41,13 +40,6 @@ module _ (kind : ℕ) (segs : List (Span ℕ)) where
   pub widens : (a b i : ℕ) → a ≤ b → b < i → errorOf kind segs b i ≤ errorOf kind segs a i
   unfolding errorOf blockError errorWith errorIn costOf rowCost
   widens = wider (rowCost kind) (segmentAt segs)
-
-  -- in the words of demand 2
-  in-words : (bound : Bound) (cuts : List ℕ)
-      → ReducesBy (segmentAt segs) (length segs) (errorOf kind segs) bound cuts ↔ Reduces kind bound segs cuts
-  unfolding gapBelow runs
-  in-words (Rows c) cuts = ((λ b. b), λ b. b)
-  in-words (Share p) cuts = ((λ b. b), λ b. b)
 
   pub answer-reduces : (bound : Bound) (k : ℕ) → countFor kind bound segs ≡ some k
       → (cuts : List ℕ) × Cut kind segs (reducedTo kind bound segs k) cuts × Reduces kind bound segs cuts × (length cuts ≡ k)
@@ -61,15 +53,11 @@ module _ (kind : ℕ) (segs : List (Span ℕ)) where
           rows = refl;
           error = rw found (sym (sound (errorOf kind segs) (gapBelow segs) widens k (length segs) t found .1));
         },
-        in-words bound cuts .0 reduces,
+        reduces,
         cutsOf-length (errorOf kind segs) (gapBelow segs) k (length segs),
       )
 
 -- ---- reductions and fitting lists
-
-map-append : {A B : Type 0} (h : A → B) (l m : List A) → map h (l ++ m) ≡ map h l ++ map h m
-map-append h [] m = refl
-map-append h (a ∷ l) m = ap (λ r. h a ∷ r) (map-append h l m)
 
 whole-rows : (kind : ℕ) (seg : ℕ → Span ℕ) (i : ℕ) (cuts : List ℕ)
     → map whole (rowsOf kind seg i cuts) ≡ bestRows (rowCost kind) seg i cuts
@@ -131,8 +119,8 @@ module _ (kind : ℕ) (rs : List (Span ℕ)) where
   -- the best rows
   pub best-rows : (bound : Bound) (cuts : List ℕ) → Reduces kind bound segs cuts
       → BestRows (rowLists kind val) bound (reductionError (errorOf kind segs) n cuts) (map whole (rowsOf kind seg n cuts))
-  unfolding by-reductions
-  best-rows bound cuts b = guarantee.best-choice by-reductions bound cuts (in-words kind segs bound cuts .1 b)
+  unfolding by-reductions gapBelow runs
+  best-rows = guarantee.best-choice by-reductions
 
   -- the answer's number of rows is at most the limit, and with a share at most the most rows of a slot
   pub count-le : (bound : Bound) (k : ℕ) → countFor kind bound segs ≡ some k → k ≤ limitOf bound

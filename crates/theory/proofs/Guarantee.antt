@@ -15,7 +15,7 @@ use borrow.Author.Tests.{leb-true, leb-false}
 use Rattle.model.specs.Spans.{Span}
 use Rattle.model.specs.Blocks.{lastGap, runsTo}
 use Rattle.model.specs.Split.{least, cutsOf, fewest, within, mostRows, chosen}
-use Rattle.model.specs.Reductions.{IsReduction, reductionError, IsLeast, BestWithin, FewestWithin}
+use Rattle.model.specs.Reductions.{IsReduction, reductionError, IsLeast, BestWithin, FewestWithin, IsAnswer}
 use Rattle.model.specs.Guarantee.{Choices, LeastOfFewest, BestOfLimit, BestOfShare, BestRows, NoRows}
 use Rattle.model.specs.declared.Bound.{Bound}
 use Rattle.model.specs.declared.Bound.the-variants.{Rows, Share}
@@ -35,14 +35,10 @@ module _ {V′ : Type 0} (seg : ℕ → Span V′) (n : ℕ) (err : ℕ → ℕ 
   abbrev pub answering : Bound → Option ℕ
   answering bound = chosen bound (λ k. least err (lastGap seg) k n) n (runsTo seg n)
 
-  abbrev pub ReducesBy : Bound → List ℕ → Type 0
-  ReducesBy (Rows c) cuts = BestWithin err (lastGap seg) n c cuts
-  ReducesBy (Share p) cuts = FewestWithin err (lastGap seg) n p (runsTo seg n) cuts
-
   module _ (widens : (a b i : ℕ) → a ≤ b → b < i → err b i ≤ err a i) where
     -- so many rows have an error, and their cuts are the reduction
     pub answer-reduces : (bound : Bound) (k : ℕ) → answering bound ≡ some k
-        → (t : ℕ) × (least err (lastGap seg) k n ≡ some t) × ReducesBy bound (cutsOf err (lastGap seg) k n)
+        → (t : ℕ) × (least err (lastGap seg) k n ≡ some t) × IsAnswer err (lastGap seg) n (runsTo seg n) bound (cutsOf err (lastGap seg) k n)
     unfolding chosen
     answer-reduces (Rows c) k h =
         cases (leb (runsTo seg n) c)
@@ -88,7 +84,7 @@ module _ {A V′ : Type 0} {choices : Choices A} {seg : ℕ → Span V′} {n : 
       record {
         fits = f;
         count = omega arith;
-        is = e;
+        hasError = e;
         least = λ other g le.
             let (cuts′, is, fewer, cheaper) = by .beaten other g in
             let h = b .least cuts′ is (omega arith) in
@@ -134,7 +130,7 @@ module _ {A V′ : Type 0} {choices : Choices A} {seg : ℕ → Span V′} {n : 
       let met = b .met in
       record {
         fits = f;
-        is = e;
+        hasError = e;
         met = record { of = b .of; isLeast = runs-least (b .of) (b .isLeast); met = rw e met };
         least = λ other g q.
             let (cuts′, is, fewer, cheaper) = by .beaten other g in
@@ -155,7 +151,7 @@ module _ {A V′ : Type 0} {choices : Choices A} {seg : ℕ → Span V′} {n : 
             omega arith;
       }
 
-  pub best-choice : (bound : Bound) (cuts : List ℕ) → ReducesBy seg n err bound cuts
+  pub best-choice : (bound : Bound) (cuts : List ℕ) → IsAnswer err (lastGap seg) n (runsTo seg n) bound cuts
       → BestRows choices bound (reductionError err n cuts) (by .made cuts)
   best-choice (Rows c) cuts b = limit-best c cuts b
   best-choice (Share p) cuts b = share-best p cuts b

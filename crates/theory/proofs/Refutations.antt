@@ -150,7 +150,7 @@ module _ (kind : ℕ) where
       record {
         choice = map whole rows;
         fits = b .fits;
-        error = b .is;
+        error = b .hasError;
         fewest = λ other f.
             elim (decLe 3 (length other)) [ yes h ↦ omega arith | no h ↦ absurd (two-never known two other f (omega arith)) ];
         least = λ other f size. b .least other f (omega arith);
@@ -238,12 +238,12 @@ one-row-per-run b =
     let less = b .least (map whole rows-G) (four-fit .0) (omega arith) in
     omega arith
 
--- the right rows, with an error one too low or too high (is)
+-- the right rows, with an error one too low or too high (hasError)
 pub error-too-low : BestOfLimit lists-G 4 11279 (map whole rows-G) → ⊥
-error-too-low b = omega (arith, b .is, four-fit .1)
+error-too-low b = omega (arith, b .hasError, four-fit .1)
 
 pub error-too-high : BestOfLimit lists-G 4 11281 (map whole rows-G) → ⊥
-error-too-high b = omega (arith, b .is, four-fit .1)
+error-too-high b = omega (arith, b .hasError, four-fit .1)
 
 -- four rows with a limit of three (count)
 pub row-over-limit : BestOfLimit lists-G 3 11280 (map whole rows-G) → ⊥
@@ -274,12 +274,12 @@ other-rows-for-999 b =
     let less = b .least (map whole rows-G) (four-fit .0) refl in
     omega arith
 
--- p = 282: the right rows, with an error one too low or too high (is)
+-- p = 282: the right rows, with an error one too low or too high (hasError)
 pub share-error-too-low : BestOfShare lists-G 282 11279 (map whole rows-G) → ⊥
-share-error-too-low b = omega (arith, b .is, four-fit .1)
+share-error-too-low b = omega (arith, b .hasError, four-fit .1)
 
 pub share-error-too-high : BestOfShare lists-G 282 11281 (map whole rows-G) → ⊥
-share-error-too-high b = omega (arith, b .is, four-fit .1)
+share-error-too-high b = omega (arith, b .hasError, four-fit .1)
 
 -- p = 1,000: rows that leave a frame out (fits)
 pub share-without-a-frame : BestOfShare lists-G 1000 40087 (map whole (span 0 0 6 201 ∷ span 0 9 10 50 ∷ [])) → ⊥

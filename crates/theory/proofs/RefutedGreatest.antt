@@ -79,7 +79,7 @@ mean-not-best b = omega (arith, b .fits .nowhereBelow refl 0 6 210 (pos 173) ref
 -- one above the greatest value, which fits (least)
 pub above-greatest-not-best : BestOfLimit lists-G3 3 25127 (three-rows (pos 211)) → ⊥
 above-greatest-not-best b =
-    omega (arith, b .least (map whole runs-G3) (three-best .fits) (three-best .count), three-best .is)
+    omega (arith, b .least (map whole runs-G3) (three-best .fits) (three-best .count), three-best .hasError)
 
 -- ---- a share
 
@@ -90,14 +90,14 @@ least-by-means is = omega (arith, only-least-G3 14943 is)
 -- p = 17: by that error five rows would be due, and four do (fewest)
 pub five-rows-for-17 : BestOfShare lists-G3 17 0 (map whole segments-G3) → ⊥
 five-rows-for-17 b =
-    let error = four-best .is in
+    let error = four-best .hasError in
     b .fewest (map whole four-G3) (four-best .fits) (omega arith)
     (record { of = 24600; isLeast = least-G3; met = omega arith })
 
 -- p = 16: four rows exceed it (met)
 pub four-rows-for-16 : BestOfShare lists-G3 16 400 (map whole four-G3) → ⊥
 four-rows-for-16 b =
-    let error = four-best .is in
+    let error = four-best .hasError in
     let of = only-least-G3 (b .met .of) (b .met .isLeast) in
     let met = b .met .met in
     omega arith
