@@ -1,2 +1,3 @@
 -- Laws of the calls' answers.
 pub mod Answering
+pub mod Refutations

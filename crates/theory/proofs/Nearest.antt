@@ -111,20 +111,21 @@ nearest-least sum frames r pos-frames =
             let h = mul-le-mul-left (suc d) (rw e at high) in
             rw e (omega arith)
 
--- the nearest whole number's error is least among all numbers, negative ones included
-abbrev pub meanOf : List (Span ℕ) → ℕ
-meanOf b = nearest ((totals b) .sum) ((totals b) .frames)
+-- the whole number nearest to a block's mean
+abbrev pub nearestMean : List (Span ℕ) → ℕ
+nearestMean b = nearest ((totals b) .sum) ((totals b) .frames)
 
-mean-least-pos : (b : List (Span ℕ)) (r : ℕ) → errorWith (pos (meanOf b)) b ≤ errorWith (pos r) b
+-- its error is least among all numbers, negative ones included
+mean-least-pos : (b : List (Span ℕ)) (r : ℕ) → errorWith (pos (nearestMean b)) b ≤ errorWith (pos r) b
 mean-least-pos b r =
     elim (decLe 1 ((totals b) .frames)) [
       | yes h ↦
-          (let here = error-pos (meanOf b) b in
+          (let here = error-pos (nearestMean b) b in
           let there = error-pos r b in
           let less = nearest-least ((totals b) .sum) ((totals b) .frames) r h in
           omega arith)
       | no h ↦
-          (let here = void (omega arith) (meanOf b) in
+          (let here = void (omega arith) (nearestMean b) in
           omega arith)
     ]
   where
@@ -134,7 +135,7 @@ mean-least-pos b r =
         let here = rw (zeros .0, zeros .1, none) at (error-pos n b) in
         omega arith
 
-pub mean-least : (b : List (Span ℕ)) (z : ℤ) → errorWith (pos (meanOf b)) b ≤ errorWith z b
+pub mean-least : (b : List (Span ℕ)) (z : ℤ) → errorWith (pos (nearestMean b)) b ≤ errorWith z b
 mean-least b (pos r) = mean-least-pos b r
 mean-least b (negsuc r) =
     let zero-row = mean-least-pos b 0 in

@@ -1,7 +1,7 @@
 -- Wrong answers of kind 3 that the demands reject, each by the clause that its comment names. Log G by kind 3 has the segments 100,
 -- 200, 210, 50 and 7; three rows have the least error 24,600 and four have 400. With nearest means in their place three rows would
 -- have 14,943. Assumes nothing.
-use Prim.Native.Nat.{ℕ}
+use Prim.Native.Nat.{ℕ, _≤_}
 use mathlib.Core.List.{List, [], _∷_, _++_, map, List·Memᴰ·head, List·Memᴰ·tail, List·Memᴰ·eq-of-singleton}
 use mathlib.Core.Option.{Option, some}
 use mathlib.Core.Path.{_≡_, refl, sym, _∙_, subst}
@@ -20,7 +20,7 @@ use Rattle.model.specs.Questions.{follows, inOrder, rowKnown, rowQuestions, zer
 use Rattle.model.specs.Calls.{Counts, logSegments, readOutcome, readRows}
 use Rattle.model.specs.Guarantee.{Choices, LeastOfFewest, BestOfLimit, BestOfShare}
 use Rattle.model.specs.Fitting.{FitsFor}
-use Rattle.model.specs.Demands.{AllPass, Cut, QueryPromise, whole}
+use Rattle.model.specs.Demands.{AllPass, Cut, NeverShort, QueryPromise, whole}
 use Rattle.model.specs.declared.Bound.the-variants.{Rows}
 use Rattle.model.proofs.Cases.{span, log-G, segments-G3, four-G3, runs-G3, bytes, query, worked-cases}
 use Rattle.theory.proofs.Tests.{some-inj}
@@ -104,36 +104,50 @@ four-rows-for-16 b =
 
 -- ---- rows that fall short
 
--- a slot of G in three rows by the nearest mean: frame 6 needs 210 (neverShort)
-means-read : valueIn (readRows (slotBytes greatestKind 14943 (span 0 0 6 173 ∷ span 0 9 10 50 ∷ span 1 0 0 7 ∷ []))) 0 6 ≡ some 173
-unfolding listFrom numberAt bytesOf slotLength rowBytes rowsBytes usedBytes slotBytes rowPlace slotKind slotCount slotError slotRow slotRows ask lent each marked askRoom kindKnown groupKnown mostRows follows inOrder rowKnown rowQuestions zeros tailZero slotQuestions readRows valueIn holds meets
-means-read = refl
-
 needed : value greatestKind (records (bytes log-G)) 0 6 ≡ some 210
 unfolding groupCount frameCount meets meeting aggregated aggregate value
 needed = rw decoded
 
-pub falls-short : (counts : Counts)
-    → QueryPromise (query greatestKind (Rows 3)) (bytes log-G) (replicate 768 0) (accepted counts)
-    (slotBytes greatestKind 14943 (span 0 0 6 173 ∷ span 0 9 10 50 ∷ span 1 0 0 7 ∷ []))
-    → ⊥
-falls-short counts p =
-    let (r, is, enough) = p .neverShort counts refl refl 0 6 210 needed in
-    let same : r ≡ 173 = some-inj is means-read in
+-- G in three rows, the first one below what frame 6 needs
+abbrev pub short-G3 : List (Span ℕ)
+short-G3 = span 0 0 6 209 ∷ span 0 9 10 50 ∷ span 1 0 0 7 ∷ []
+
+pub rows-fall-short : NeverShort (query greatestKind (Rows 3)) (bytes log-G) short-G3 → ⊥
+unfolding valueIn holds meets
+rows-fall-short never =
+    let (r, is, enough) = never refl 0 6 210 needed in
+    let same : r ≡ 209 = some-inj is refl in
     omega arith
+
+-- a slot of these rows (neverShort)
+short-read : readRows (slotBytes greatestKind 24087 short-G3) ≡ short-G3
+unfolding listFrom numberAt bytesOf slotLength rowBytes rowsBytes usedBytes slotBytes rowPlace slotKind slotCount slotError slotRow slotRows ask lent each marked askRoom kindKnown groupKnown mostRows follows inOrder rowKnown rowQuestions zeros tailZero slotQuestions readRows
+short-read = refl
+
+pub falls-short : (counts : Counts)
+    → QueryPromise (query greatestKind (Rows 3)) (bytes log-G) (replicate 768 0) (accepted counts) (slotBytes greatestKind 24087 short-G3)
+    → ⊥
+falls-short counts p = rows-fall-short (rw short-read at (p .neverShort counts refl))
 
 -- ---- demand 2
 
--- a row value above the only value of its block (between), and one of kind 3 below a value of its block (greatest)
-pub row-above-block : (kind : ℕ) → rowValue kind (span 0 0 0 5 ∷ []) ≡ 6 → ⊥
+-- a row value above the only value of its block, and one below it (between)
+only-value : (kind : ℕ) → (5 ≤ rowValue kind (span 0 0 0 5 ∷ [])) × (rowValue kind (span 0 0 0 5 ∷ []) ≤ 5)
 unfolding totals empty add totalsOf spanLength
-row-above-block kind e =
-    omega (arith, demand2 .between kind 5 5 (span 0 0 0 5 ∷ []) (omega arith) (λ s m. rw (List·Memᴰ·eq-of-singleton m) (omega arith, omega arith)) .1)
+only-value kind =
+    demand2 .between kind 5 5 (span 0 0 0 5 ∷ []) (omega arith) (λ s m. rw (List·Memᴰ·eq-of-singleton m) (omega arith, omega arith))
+
+pub row-above-block : (kind : ℕ) → rowValue kind (span 0 0 0 5 ∷ []) ≡ 6 → ⊥
+row-above-block kind e = omega (arith, only-value kind .1)
+
+pub row-below-least : (kind : ℕ) → rowValue kind (span 0 0 0 5 ∷ []) ≡ 4 → ⊥
+row-below-least kind e = omega (arith, only-value kind .0)
 
 -- loads 0 and 1
 abbrev loads : List (Span ℕ)
 loads = span 0 0 0 0 ∷ span 0 1 1 1 ∷ []
 
+-- a row value of kind 3 below a value of its block (greatest)
 pub row-below-block : rowValue greatestKind loads ≡ 0 → ⊥
 row-below-block e = omega (arith, demand2 .greatest loads (span 0 1 1 1) (List·Memᴰ·tail (List·Memᴰ·head refl)))
 
@@ -149,13 +163,14 @@ earlier-logged : AllPass (logQuestions (bytes loads))
 unfolding logQuestions recordCount recordLength mostRecords each recordQuestions spanQuestions marked groupKnown recordAt numberAt recordBytes bytesOf ask outcome
 earlier-logged = outcome-accepted (logQuestions (bytes loads)) (tt {0}) (tt {0}) refl .0
 
--- refused (stillRead)
-pub earlier-slot-refused : (number index : ℕ) → readOutcome (slotBytes greatestKind 1 (span 0 0 1 0 ∷ []) ++ []) ≡ refused number index → ⊥
+-- refused, whatever stands behind it (stillRead)
+pub earlier-slot-refused : (rest : List ℕ) (number index : ℕ)
+    → readOutcome (slotBytes greatestKind 1 (span 0 0 1 0 ∷ []) ++ rest) ≡ refused number index → ⊥
 unfolding kindKnown mostRows
-earlier-slot-refused number index e =
+earlier-slot-refused rest number index e =
     let found : logSegments greatestKind (bytes loads) ≡ loads = worked-cases .2 .1 .1 .1 .1 .0 .0 in
     let (cut, is) = earlier-cut in
-    let reads = demand2 .stillRead 0 greatestKind (bytes loads) (0 ∷ []) [] earlier refl earlier-logged
+    let reads = demand2 .stillRead 0 greatestKind (bytes loads) (0 ∷ []) rest earlier refl earlier-logged
     (subst (λ segs. Cut 0 segs earlier (0 ∷ [])) (sym found) cut)
     (subst (λ segs. IsReduction (gapBelow segs) (length segs) (0 ∷ [])) (sym found) is) (omega arith) in
     accepted≢refused (sym (reads .header) ∙ e)

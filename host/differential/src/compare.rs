@@ -136,7 +136,7 @@ pub fn run(random: &mut Random, seen: &mut Seen) -> Result<(), String> {
     };
     inputs::damage_slot(random, &mut other);
     slot_calls(random, &other, seen)?;
-    if kind == reference::GREATEST && matches!(rule, c::ROWS | c::SHARE) && bound <= 64 {
+    if kind == reference::GREATEST && reference::bounded(rule, bound) {
         earlier_slot(random, &expected, rule, bound, seen)?;
     }
     write_record(random, seen)

@@ -460,6 +460,11 @@ pub fn reduce(segments: &[Stretch], kind: u8, rule: u8, bound: u16) -> Option<Re
     })
 }
 
+/// Whether a rule and its bound pass question 3.
+pub fn bounded(rule: u8, bound: u16) -> bool {
+    (rule == ROWS && bound <= 64) || (rule == SHARE && bound <= 1000)
+}
+
 /// The query call: the reduction, or the first question that got 'no'.
 pub fn query(
     kind: u8,
@@ -468,11 +473,10 @@ pub fn query(
     log: &[u8],
     slot_length: usize,
 ) -> Result<Reduction, No> {
-    let bounded = (rule == ROWS && bound <= 64) || (rule == SHARE && bound <= 1000);
     ask([
         (1, 0, slot_length >= 768),
         (2, 0, kind <= MOST_KIND),
-        (3, 0, bounded),
+        (3, 0, bounded(rule, bound)),
     ])?;
     ask(log_questions(log))?;
     reduce(&segments_of(&records(log), kind), kind, rule, bound).ok_or(No {
