@@ -1,7 +1,8 @@
 /* Load profiles for the pacer: the C interface.
  *
- * A log is 0 to 128 records of 9 bytes. A query finds the log's constant segments, merges them
- * to few rows and writes the rows into a slot of 768 bytes, which the other calls read.
+ * A log is 0 to 128 records of 9 bytes. A query writes few rows into a slot of 768 bytes, which the
+ * other calls read. By a bound it finds the log's constant segments and merges them; by windows,
+ * beats or scenes, it gives each group a row for each window that one of its records meets.
  *
  * Every call asks its questions in the order given at the call. The answer's field `question` is
  * 0 if all got 'yes'. Otherwise it is the number of the first question that got 'no', `index` is
@@ -18,20 +19,24 @@
  *    8  Is first at most last?
  *    9  Is the load at most 1,000?
  *   10  Is the row limit at least the count of runs; with a share, do 64 rows or fewer meet it?
- *   11  Header mark right?
+ *   11  Header mark right (50 48 or 50 53)?
  *   12  Slot's kind 0 to 4?
  *   13  Row count at most 64?
  *   14  Row mark right?
  *   15  Row's group 0 to 7, first at most last, value at most 128,000?
  *   16  Is its group above the previous row's, or equal with first above the previous last?
- *   17  Are all bytes after the last row, to 768, zero?
+ *   17  Are all bytes after the last row, to 768, zero, and with the header 50 53 the error too?
+ *   18  Is the length of the beats at least 1?
+ *   19  Are there 1 to 16 scenes, as many firsts as lasts, each first at most its last, and each
+ *       scene wholly after the one before?
+ *   20  Are there at most 64 rows?
  *
  * The questions of one record or row come before the next one's.
  *
  * A pointer must point to as many bytes or places as the length beside it says; with the length
- * 0 it is not read, but it must not be null. Two buffers of one call must not overlap. No call
- * keeps a pointer, allocates, or changes anything but what is lent to it, so calls on different
- * buffers may run at the same time.
+ * 0 it is not read, but it must not be null. A buffer that a call may write must not overlap
+ * another one of the call. No call keeps a pointer, allocates, or changes anything but what is lent
+ * to it, so calls on different buffers may run at the same time.
  */
 #ifndef PACER_H
 #define PACER_H
@@ -40,7 +45,7 @@
 #include <stdint.h>
 
 /* The version of the library that this header describes. */
-#define PACER_VERSION "0.10.0"
+#define PACER_VERSION "0.11.0"
 
 #ifdef __cplusplus
 extern "C" {
@@ -51,25 +56,29 @@ enum {
     PACER_RECORD_BYTES = 9,
     PACER_SLOT_BYTES = 768,
     PACER_SEGMENT_PLACES = 255,
-    PACER_ROW_PLACES = 64
+    PACER_ROW_PLACES = 64,
+    PACER_SCENE_PLACES = 16               /* the most scenes of a query */
 };
 
 /* Stack that a call needs at most, in bytes: measured on x86-64 by tests-c/stack.c, which fails if a
  * call needs more, and rounded up.
  */
 enum {
-    PACER_SMALL_QUERY_STACK = 32 * 1024,  /* a query of a log with at most 32 segments */
-    PACER_QUERY_STACK = 300 * 1024,       /* any query: 48 KB to 64 segments, 96 KB to 128 */
+    PACER_SMALL_QUERY_STACK = 32 * 1024,  /* a query by a bound, of at most 32 segments */
+    PACER_QUERY_STACK = 300 * 1024,       /* any by a bound: 48 KB to 64 segments, 96 KB to 128 */
+    PACER_WINDOWS_STACK = 10 * 1024,      /* a query by beats or scenes */
     PACER_SEGMENTS_STACK = 10 * 1024,
     PACER_SLOT_STACK = 3 * 1024           /* every other call */
 };
 
-/* What a frame's value is, over the records that contain it. */
+/* What a frame's value is, over the records that contain it, and the value of a window's row, over
+ * the records that contain at least one of its frames.
+ */
 enum {
     PACER_SUM = 0,      /* sum of the loads */
     PACER_COUNT = 1,    /* count of records */
     PACER_LEAST = 2,    /* least load */
-    PACER_GREATEST = 3, /* greatest load; a row holds the greatest value in it */
+    PACER_GREATEST = 3, /* greatest load; a row by a bound holds the greatest value in it */
     PACER_MEAN = 4      /* mean load in hundredths: 100 * sum / count, rounded down */
 };
 
@@ -77,6 +86,12 @@ enum {
 enum {
     PACER_ROWS = 0x52,  /* a row limit, 0 to 64 */
     PACER_SHARE = 0x45  /* an error share, 0 to 1,000 thousandths */
+};
+
+/* What the rows of a slot were made by: the second byte of its header. */
+enum {
+    PACER_BY_BOUND = 0x48,   /* a bound; the header is 50 48 */
+    PACER_BY_WINDOWS = 0x53  /* beats or scenes; the header is 50 53, and the error is 0 */
 };
 
 struct pacer_record_answer {
@@ -101,7 +116,8 @@ struct pacer_query_answer {
 struct pacer_read_answer {
     uint8_t question;
     size_t index;
-    uint8_t kind;       /* 0 in a refusal, as rows and error */
+    uint8_t kind;       /* 0 in a refusal, as mark, rows and error */
+    uint8_t mark;       /* PACER_BY_BOUND or PACER_BY_WINDOWS */
     size_t rows;
     uint64_t error;
 };
@@ -133,7 +149,7 @@ struct pacer_segment {
 };
 
 /* A row of a slot: some consecutive frames of a group, both included, and the value that stands
- * for them.
+ * for them. A row by windows has its window's own frames, covered or not.
  */
 struct pacer_row {
     uint8_t group;
@@ -166,6 +182,34 @@ struct pacer_query_answer pacer_query(uint8_t kind, uint8_t rule, uint16_t bound
                                       const uint8_t *log, size_t log_length,
                                       uint8_t *slot, size_t slot_length);
 
+/* Writes a log's rows by beats into a slot: those of the windows every `length` frames from frame
+ * `start` on, the last one cut off at frame 65,535. Frames before `start` lie in no window.
+ * Asks 1 (768 bytes of slot), 2, 18, 4, 5, then 6 to 9 for record after record, then 20.
+ * Accepted: the first 768 bytes of the slot are header (50 53), rows and zeros; the others keep
+ * their content. The answer gives the count of rows; error and weighed are 0.
+ * The rows stand by group and then by window. A row has its window's own first and last frame, and
+ * the kind's value over all records of its group that contain at least one frame of the window,
+ * each counted once. A window that no record of a group meets gives that group no row.
+ * Refused: the slot is unchanged; rows is 0 too.
+ * `log` and `slot` must not overlap.
+ */
+struct pacer_query_answer pacer_query_beats(uint8_t kind, uint16_t length, uint16_t start,
+                                            const uint8_t *log, size_t log_length,
+                                            uint8_t *slot, size_t slot_length);
+
+/* Writes a log's rows by scenes into a slot: those of the windows from frame `firsts[i]` to frame
+ * `lasts[i]`, both included. Scenes may touch, as 0 to 3 and 4 to 9 do.
+ * Asks 1 (768 bytes of slot), 2, 19, 4, 5, then 6 to 9 for record after record, then 20. Lists of
+ * unequal length are 19's 'no'.
+ * All else is as with pacer_query_beats.
+ * `slot` must not overlap `firsts`, `lasts` or `log`.
+ */
+struct pacer_query_answer pacer_query_scenes(uint8_t kind,
+                                             const uint16_t *firsts, size_t first_count,
+                                             const uint16_t *lasts, size_t last_count,
+                                             const uint8_t *log, size_t log_length,
+                                             uint8_t *slot, size_t slot_length);
+
 /* Lists a log's segments, by group and then by first frame.
  * Asks 1 (255 places), 2, 4, 5, then 6 to 9 for record after record.
  * Accepted: the first `count` places hold the segments, the others keep their content.
@@ -175,17 +219,18 @@ struct pacer_query_answer pacer_query(uint8_t kind, uint8_t rule, uint16_t bound
 struct pacer_segments_answer pacer_segments(const uint8_t *log, size_t log_length, uint8_t kind,
                                             struct pacer_segment *list, size_t places);
 
-/* Reads a slot's kind, error and count of rows. Every error number is accepted.
+/* Reads a slot's kind, error and count of rows, and which header it has. Under the header 50 48
+ * every error number is accepted.
  * Asks 1 (768 bytes), 11, 12, 13, then 14 to 16 for row after row, then 17.
- * Writes nothing. Refused: kind, rows and error are 0.
+ * Writes nothing. Refused: kind, mark, rows and error are 0.
  */
 struct pacer_read_answer pacer_read(const uint8_t *slot, size_t length);
 
-/* Reads a slot's kind, error and count of rows, and all of its rows into a list.
+/* Reads what pacer_read reads, and all of the slot's rows into a list.
  * Asks 1 (768 bytes and 64 places), 11, 12, 13, then 14 to 16 for row after row, then 17.
  * Accepted: the first `rows` places hold the rows, by group and then by first frame; the others
  * keep their content.
- * Refused: the list is unchanged; kind, rows and error are 0.
+ * Refused: the list is unchanged; kind, mark, rows and error are 0.
  * `slot` and `list` must not overlap.
  */
 struct pacer_read_answer pacer_read_rows(const uint8_t *slot, size_t length,

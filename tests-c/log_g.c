@@ -1,8 +1,9 @@
-/* Log G through the C interface: write_record, segments, query, read, read_rows, row_at and lookup.
+/* Log G through the C interface: write_record, segments, query, query_beats, query_scenes, read,
+ * read_rows, row_at and lookup.
  *
- * Every answer is checked against the numbers that the paper prints for log G, and every byte
- * lent against the paper's layout. Prints one line, `c interface: ok`; with any difference it
- * prints each of them and ends with status 1.
+ * Every answer is checked against the numbers that the paper prints for log G, or against what its
+ * rules give for it by hand, and every byte lent against the paper's layout. Prints one line,
+ * `c interface: ok`; with any difference it prints each of them and ends with status 1.
  *
  * From the repository's root, with the archive in target/staticlib:
  *
@@ -83,6 +84,20 @@ static const uint8_t slot_g[PACER_SLOT_BYTES] = {
     0x50, 0x52, 0x00, 0x02, 0x00, 0x06, 0x00, 0xF2, 0x00, 0x00, 0x00,
     0x50, 0x52, 0x00, 0x09, 0x00, 0x0A, 0x00, 0x32, 0x00, 0x00, 0x00,
     0x50, 0x52, 0x01, 0x00, 0x00, 0x00, 0x00, 0x07, 0x00, 0x00, 0x00,
+};
+
+/* The rows of G by beats of four frames from frame 0, kind 0, and the slot's bytes. A row has its
+ * window's frames, covered or not, and a record that lies in two windows counts in both.
+ */
+static const struct pacer_row beats_g[4] = {
+    {0, 0, 3, 300}, {0, 4, 7, 410}, {0, 8, 11, 50}, {1, 0, 3, 7},
+};
+static const uint8_t beats_slot_g[PACER_SLOT_BYTES] = {
+    0x50, 0x53, 0x00, 0x04, 0x00, 0x00, 0x00, 0x00, 0x00, 0x00, 0x00, 0x00,
+    0x50, 0x52, 0x00, 0x00, 0x00, 0x03, 0x00, 0x2C, 0x01, 0x00, 0x00,
+    0x50, 0x52, 0x00, 0x04, 0x00, 0x07, 0x00, 0x9A, 0x01, 0x00, 0x00,
+    0x50, 0x52, 0x00, 0x08, 0x00, 0x0B, 0x00, 0x32, 0x00, 0x00, 0x00,
+    0x50, 0x52, 0x01, 0x00, 0x00, 0x03, 0x00, 0x07, 0x00, 0x00, 0x00,
 };
 
 /* Fills a buffer with bytes that no call writes there by chance. */
@@ -280,12 +295,161 @@ static void test_greatest(const uint8_t *log)
     SAME(pacer_lookup(slot, sizeof slot, 0, 1).value, 0);
 }
 
+/* The rows of a slot by windows: reader, list, walk and lookup. */
+static void rows_by_windows(const uint8_t *slot, size_t length, uint8_t kind,
+                            const struct pacer_row *rows, size_t count)
+{
+    static struct pacer_row list[PACER_ROW_PLACES];
+    const struct pacer_read_answer a = pacer_read(slot, length);
+    SAME(a.question, 0);
+    SAME(a.index, 0);
+    SAME(a.kind, kind);
+    SAME(a.mark, PACER_BY_WINDOWS);
+    SAME(a.rows, count);
+    SAME(a.error, 0);
+    SAME(pacer_read_rows(slot, length, list, PACER_ROW_PLACES).mark, PACER_BY_WINDOWS);
+    for (size_t i = 0; i < count; i++) {
+        const struct pacer_step_answer step = pacer_row_at(slot, length, i);
+        SAME(step.found, 1);
+        SAME(step.next, i + 1);
+        SAME(step.group, rows[i].group);
+        SAME(step.first, rows[i].first);
+        SAME(step.last, rows[i].last);
+        SAME(step.value, rows[i].value);
+        SAME(list[i].group, rows[i].group);
+        SAME(list[i].first, rows[i].first);
+        SAME(list[i].last, rows[i].last);
+        SAME(list[i].value, rows[i].value);
+        SAME(pacer_lookup(slot, length, rows[i].group, rows[i].first).value, rows[i].value);
+        SAME(pacer_lookup(slot, length, rows[i].group, rows[i].last).covered, 1);
+    }
+    SAME(pacer_row_at(slot, length, count).found, 0);
+}
+
+static void test_beats(const uint8_t *log)
+{
+    static uint8_t slot[PACER_SLOT_BYTES + 32], before[PACER_SLOT_BYTES + 32];
+    static const struct pacer_row cut_off[] = {{0, 6, 65535, 2}};
+    static const struct pacer_row greatest[] = {{0, 3, 9, 210}, {0, 10, 16, 50}};
+    uint8_t wide[18];
+
+    fill(before, sizeof before);
+    memcpy(slot, before, sizeof slot);
+
+    /* Refusals, in the order of their questions, leave the slot unchanged. */
+    SAME(pacer_query_beats(5, 0, 0, log, 44, slot, 767).question, 1);
+    SAME(pacer_query_beats(5, 0, 0, log, 44, slot, sizeof slot).question, 2);
+    ANSWER(pacer_query_beats(4, 0, 0, log, 44, slot, sizeof slot), 18, 0, 0, 0, 0);
+    SAME(pacer_query_beats(4, 1, 0, log, 44, slot, sizeof slot).question, 4);
+    /* 65 windows of one frame; and a wrong record, which comes first. */
+    SAME(pacer_write_record(5, 0, 64, 9, wide, 9).question, 0);
+    ANSWER(pacer_query_beats(0, 1, 0, wide, 9, slot, sizeof slot), 20, 0, 0, 0, 0);
+    memcpy(wide + 9, wide, 9);
+    wide[9 + 2] = 8;
+    ANSWER(pacer_query_beats(0, 1, 0, wide, 18, slot, sizeof slot), 7, 1, 0, 0, 0);
+    BYTES(slot, before, sizeof slot);
+
+    /* One frame later there are 64. */
+    ANSWER(pacer_query_beats(0, 1, 1, wide, 9, slot, sizeof slot), 0, 0, 64, 0, 0);
+
+    ANSWER(pacer_query_beats(PACER_COUNT, 65535, 6, log, 45, slot, sizeof slot), 0, 0, 1, 0, 0);
+    rows_by_windows(slot, sizeof slot, PACER_COUNT, cut_off, 1);
+    ANSWER(pacer_query_beats(PACER_GREATEST, 7, 3, log, 45, slot, sizeof slot), 0, 0, 2, 0, 0);
+    rows_by_windows(slot, sizeof slot, PACER_GREATEST, greatest, 2);
+    ANSWER(pacer_query_beats(PACER_SUM, 1, 65535, log, 45, slot, sizeof slot), 0, 0, 0, 0, 0);
+    rows_by_windows(slot, sizeof slot, PACER_SUM, NULL, 0);
+
+    memcpy(slot, before, sizeof slot);
+    ANSWER(pacer_query_beats(PACER_SUM, 4, 0, log, 45, slot, sizeof slot), 0, 0, 4, 0, 0);
+    BYTES(slot, beats_slot_g, PACER_SLOT_BYTES);
+    BYTES(slot + PACER_SLOT_BYTES, before + PACER_SLOT_BYTES, sizeof slot - PACER_SLOT_BYTES);
+    rows_by_windows(slot, sizeof slot, PACER_SUM, beats_g, 4);
+    SAME(pacer_lookup(slot, sizeof slot, 0, 12).covered, 0);
+    SAME(pacer_lookup(slot, sizeof slot, 8, 0).question, 7);
+
+    /* Under this header an error is question 17's 'no', after the rows' questions; under the other
+     * one it is not.
+     */
+    for (size_t byte = 4; byte < 12; byte++) {
+        slot[byte] = 1;
+        SAME(pacer_read(slot, sizeof slot).question, 17);
+        SAME(pacer_read(slot, sizeof slot).mark, 0);
+        SAME(pacer_row_at(slot, sizeof slot, 0).question, 17);
+        SAME(pacer_lookup(slot, sizeof slot, 0, 0).question, 17);
+        slot[12]++;
+        SAME(pacer_read(slot, sizeof slot).question, 14);
+        slot[12]--;
+        slot[1] = PACER_BY_BOUND;
+        SAME(pacer_read(slot, sizeof slot).question, 0);
+        SAME(pacer_read(slot, sizeof slot).mark, PACER_BY_BOUND);
+        slot[1] = PACER_BY_WINDOWS;
+        slot[byte] = 0;
+    }
+}
+
+static void test_scenes(const uint8_t *log)
+{
+    static uint8_t slot[PACER_SLOT_BYTES], before[PACER_SLOT_BYTES];
+    static const uint16_t firsts[] = {0, 4, 11}, lasts[] = {3, 9, 65535};
+    static const struct pacer_row least[] = {{0, 0, 3, 100}, {0, 4, 9, 50}, {1, 0, 3, 7}};
+    static const uint16_t shared[] = {0, 3}, backwards[] = {4, 0}, ends[] = {9, 3};
+    uint16_t many[PACER_SCENE_PLACES + 1];
+    uint8_t four[36];
+
+    fill(before, sizeof before);
+    memcpy(slot, before, sizeof slot);
+    for (uint16_t i = 0; i <= PACER_SCENE_PLACES; i++)
+        many[i] = (uint16_t)(10 * i);
+    for (uint8_t i = 0; i < 4; i++)
+        SAME(pacer_write_record(i, 0, 160, 9, four + 9 * i, 9).question, 0);
+
+    /* Refusals leave the slot unchanged: no scene, 17, lists of unequal length, a first above its
+     * last, a shared frame, the wrong order.
+     */
+    const struct {
+        const uint16_t *firsts;
+        size_t first_count;
+        const uint16_t *lasts;
+        size_t last_count;
+    } wrong[] = {
+        {firsts, 0, lasts, 0}, {many, 17, many, 17}, {firsts, 2, lasts, 3}, {firsts, 3, lasts, 2},
+        {many, 16, many, 17},  {many, 17, many, 16}, {lasts, 1, firsts, 1}, {shared, 2, lasts, 2},
+        {backwards, 2, ends, 2},
+    };
+    for (size_t i = 0; i < sizeof wrong / sizeof wrong[0]; i++) {
+        ANSWER(pacer_query_scenes(0, wrong[i].firsts, wrong[i].first_count, wrong[i].lasts,
+                                  wrong[i].last_count, log, 44, slot, sizeof slot),
+               19, 0, 0, 0, 0);
+    }
+    SAME(pacer_query_scenes(5, firsts, 0, lasts, 0, log, 44, slot, 767).question, 1);
+    SAME(pacer_query_scenes(5, firsts, 0, lasts, 0, log, 44, slot, sizeof slot).question, 2);
+    SAME(pacer_query_scenes(4, firsts, 3, lasts, 3, log, 44, slot, sizeof slot).question, 4);
+    BYTES(slot, before, sizeof slot);
+
+    /* Scenes that touch, and one that nothing meets. */
+    ANSWER(pacer_query_scenes(PACER_LEAST, firsts, 3, lasts, 3, log, 45, slot, sizeof slot), 0, 0,
+           3, 0, 0);
+    rows_by_windows(slot, sizeof slot, PACER_LEAST, least, 3);
+
+    /* 16 scenes by four groups are 64 rows; with one record more there are 65. */
+    ANSWER(pacer_query_scenes(PACER_SUM, many, 16, many, 16, four, 36, slot, sizeof slot), 0, 0, 64,
+           0, 0);
+    memcpy(before, slot, sizeof before);
+    uint8_t five[45];
+    memcpy(five, four, 36);
+    SAME(pacer_write_record(7, 150, 150, 9, five + 36, 9).question, 0);
+    ANSWER(pacer_query_scenes(PACER_SUM, many, 16, many, 16, five, 45, slot, sizeof slot), 20, 0, 0,
+           0, 0);
+    BYTES(slot, before, sizeof slot);
+}
+
 static void test_read(uint8_t *slot, size_t length)
 {
     struct pacer_read_answer a = pacer_read(slot, length);
     SAME(a.question, 0);
     SAME(a.index, 0);
     SAME(a.kind, 0);
+    SAME(a.mark, PACER_BY_BOUND);
     SAME(a.rows, 4);
     SAME(a.error, 11280);
     SAME(pacer_read(slot, 767).question, 1);
@@ -297,7 +461,8 @@ static void test_read(uint8_t *slot, size_t length)
         uint8_t question;
         size_t index;
     } cases[] = {
-        {0, 0x51, 11, 0},  {1, 0x49, 11, 0},  {2, 5, 12, 0},       {3, 65, 13, 0},
+        {0, 0x51, 11, 0},  {1, 0x49, 11, 0},  {1, 0x43, 11, 0},    {1, PACER_BY_WINDOWS, 17, 0},
+        {2, 5, 12, 0},     {3, 65, 13, 0},
         {23, 0x51, 14, 1}, {25, 8, 15, 1},    {26, 7, 15, 1},      {33, 2, 15, 1},
         {26, 1, 16, 1},    {3, 3, 17, 0},     {767, 1, 17, 0},     {3, 5, 14, 4},
     };
@@ -308,6 +473,7 @@ static void test_read(uint8_t *slot, size_t length)
         SAME(a.question, cases[i].question);
         SAME(a.index, cases[i].index);
         SAME(a.kind, 0);
+        SAME(a.mark, 0);
         SAME(a.rows, 0);
         SAME(a.error, 0);
         slot[cases[i].byte] = kept;
@@ -342,6 +508,7 @@ static void test_read_rows(uint8_t *slot, size_t length)
     struct pacer_read_answer a = pacer_read_rows(slot, length, list, places);
     slot[767] = 0;
     SAME(a.question, 17);
+    SAME(a.mark, 0);
     SAME(a.rows, 0);
     for (size_t i = 0; i < places; i++)
         SAME(list[i].group, 9);
@@ -350,6 +517,7 @@ static void test_read_rows(uint8_t *slot, size_t length)
     SAME(a.question, 0);
     SAME(a.index, 0);
     SAME(a.kind, 0);
+    SAME(a.mark, PACER_BY_BOUND);
     SAME(a.rows, 4);
     SAME(a.error, 11280);
     for (size_t i = 0; i < places; i++) {
@@ -430,6 +598,8 @@ int main(void)
     test_query(log, slot, sizeof slot);
     test_mean(log);
     test_greatest(log);
+    test_beats(log);
+    test_scenes(log);
     test_read(slot, sizeof slot);
     test_read_rows(slot, sizeof slot);
     test_row_at(slot, sizeof slot);

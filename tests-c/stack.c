@@ -55,6 +55,9 @@ static uint8_t log_bytes[128 * PACER_RECORD_BYTES];
 static size_t log_length;
 static uint8_t kind, rule;
 static uint16_t bound;
+static uint16_t beat, start;
+static uint16_t firsts[PACER_SCENE_PLACES], lasts[PACER_SCENE_PLACES];
+static size_t scenes;
 static uint8_t slot[PACER_SLOT_BYTES];
 static size_t number;
 static struct pacer_segment segment_list[PACER_SEGMENT_PLACES];
@@ -72,6 +75,9 @@ static uint8_t question;
     }
 CALL(write_record, pacer_write_record(7, 0, 65535, 1000, record, sizeof record))
 CALL(query, pacer_query(kind, rule, bound, log_bytes, log_length, slot, sizeof slot))
+CALL(query_beats, pacer_query_beats(kind, beat, start, log_bytes, log_length, slot, sizeof slot))
+CALL(query_scenes, pacer_query_scenes(kind, firsts, scenes, lasts, scenes, log_bytes, log_length,
+                                      slot, sizeof slot))
 CALL(segments,
      pacer_segments(log_bytes, log_length, kind, segment_list, PACER_SEGMENT_PLACES))
 CALL(read, pacer_read(slot, sizeof slot))
@@ -155,6 +161,89 @@ static size_t query_need(unsigned n)
     return needed;
 }
 
+/* All kinds of queries by beats on a log over all frames, from no row to 64, and refusals by
+ * questions 6, 18 and 20.
+ */
+static size_t beats_need(void)
+{
+    static const struct {
+        uint16_t beat, start;
+        uint8_t question;
+    } cases[] = {
+        {1, 65535, 0}, {1, 65472, 0}, {1024, 0, 0},  {65535, 0, 0},
+        {0, 0, 18},    {1, 0, 20},    {1, 65471, 20},
+    };
+    size_t needed = 0;
+    for (kind = PACER_SUM; kind <= PACER_MEAN; kind++) {
+        for (size_t i = 0; i < sizeof cases / sizeof cases[0]; i++) {
+            beat = cases[i].beat;
+            start = cases[i].start;
+            most(&needed, query_beats, cases[i].question);
+        }
+    }
+    log_bytes[0]++;
+    kind = PACER_SUM;
+    beat = 1024;
+    most(&needed, query_beats, 6);
+    log_bytes[0]--;
+    log_length = 0;
+    most(&needed, query_beats, 0);
+    return needed;
+}
+
+/* All kinds of queries by 0 to 16 scenes, and refusals by questions 6, 19 and 20. */
+static size_t scenes_need(void)
+{
+    size_t needed = 0;
+    for (size_t i = 0; i < PACER_SCENE_PLACES; i++) {
+        firsts[i] = (uint16_t)(4096 * i);
+        lasts[i] = (uint16_t)(firsts[i] + 4095);
+    }
+    for (kind = PACER_SUM; kind <= PACER_MEAN; kind++) {
+        for (scenes = 0; scenes <= PACER_SCENE_PLACES; scenes++)
+            most(&needed, query_scenes, scenes == 0 ? 19 : 0);
+    }
+    kind = PACER_SUM;
+    scenes = PACER_SCENE_PLACES;
+    log_bytes[0]++;
+    most(&needed, query_scenes, 6);
+    log_bytes[0]--;
+    lasts[0] = 4096;
+    most(&needed, query_scenes, 19);
+    lasts[0] = 4095;
+    /* Each record in another group: 16 scenes by eight groups are 128 rows. */
+    for (size_t i = 0; i < log_length / PACER_RECORD_BYTES; i++)
+        log_bytes[PACER_RECORD_BYTES * i + 2] = i % 8;
+    most(&needed, query_scenes, 20);
+    return needed;
+}
+
+/* Makes a slot of 64 rows, by a bound or by windows. */
+static void make_slot(int by_windows)
+{
+    kind = PACER_SUM;
+    rule = PACER_ROWS;
+    bound = 64;
+    beat = 1;
+    start = 0;
+    make_log(by_windows ? 64 : 255);
+    if (by_windows)
+        query_beats();
+    else
+        query();
+}
+
+/* Makes a log of 128 records of one group that cover all frames together. */
+static void make_wide_log(void)
+{
+    for (unsigned i = 0; i < 128; i++) {
+        pacer_write_record(0, (uint16_t)(256 * i), (uint16_t)(32768 + 256 * i + 255),
+                           (uint16_t)(noise(i) % 1001), log_bytes + PACER_RECORD_BYTES * i,
+                           PACER_RECORD_BYTES);
+    }
+    log_length = sizeof log_bytes;
+}
+
 int main(void)
 {
     size_t needed;
@@ -167,6 +256,11 @@ int main(void)
             sizes[i] <= 32 ? PACER_SMALL_QUERY_STACK : PACER_QUERY_STACK);
     }
 
+    make_wide_log();
+    row("pacer_query_beats", beats_need(), PACER_WINDOWS_STACK);
+    make_wide_log();
+    row("pacer_query_scenes", scenes_need(), PACER_WINDOWS_STACK);
+
     needed = 0;
     make_log(255);
     for (kind = PACER_SUM; kind <= PACER_MEAN; kind++)
@@ -177,25 +271,23 @@ int main(void)
     most(&needed, write_record, 0);
     row("pacer_write_record", needed, PACER_SLOT_STACK);
 
-    /* A slot of 64 rows, at its first and last row and past them, and the same slot with a byte
-     * after its last row. */
-    kind = PACER_SUM;
-    rule = PACER_ROWS;
-    bound = 64;
-    query();
+    /* A slot of 64 rows under each header, at its first and last row and past them, and the same
+     * slot with a byte after its last row. */
     static const uint16_t numbers[] = {0, 63, 64, 510, 65535};
     static void (*const calls[])(void) = {read, read_rows, row_at, lookup};
     static const char *const names[] = {"pacer_read", "pacer_read_rows", "pacer_row_at",
                                         "pacer_lookup"};
     for (size_t i = 0; i < sizeof calls / sizeof calls[0]; i++) {
         needed = 0;
-        slot[PACER_SLOT_BYTES - 1] = 0;
-        for (size_t j = 0; j < sizeof numbers / sizeof numbers[0]; j++) {
-            number = numbers[j];
-            most(&needed, calls[i], 0);
+        for (int by_windows = 0; by_windows <= 1; by_windows++) {
+            make_slot(by_windows);
+            for (size_t j = 0; j < sizeof numbers / sizeof numbers[0]; j++) {
+                number = numbers[j];
+                most(&needed, calls[i], 0);
+            }
+            slot[PACER_SLOT_BYTES - 1] = 1;
+            most(&needed, calls[i], 17);
         }
-        slot[PACER_SLOT_BYTES - 1] = 1;
-        most(&needed, calls[i], 17);
         row(names[i], needed, PACER_SLOT_STACK);
     }
     if (failures == 0)

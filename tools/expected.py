@@ -1,13 +1,18 @@
 #!/usr/bin/env python3
-"""The expected output of the program `profile`, computed from the paper's words.
+"""The expected output of the program `profile`, and of queries by windows, computed from the
+paper's words.
 
     expected.py INPUT                    print what `profile` prints for the file INPUT
     expected.py --cases CASES EXPECTED   write the file of cases and the file of expected output
+    expected.py --windows FILE           write the file of queries by windows with their answers
 
 An input is the kind (1 byte), 52 for a row limit or 45 for a share (hexadecimal), the bound
 (2 bytes, least byte first) and the log. In the file of cases each case is its length (2 bytes,
 least byte first) and then its bytes; the file of expected output has what `profile` prints for
 one case after another.
+
+The program takes no windows, so their queries are for the Rust tests; each is a line of words,
+which the first lines of the file explain.
 
 Frames, segments, blocks and cuts are worked out one by one with Python's whole numbers and
 fractions, by the shortest way from the words and not the fastest.
@@ -194,11 +199,8 @@ def reduction(segments, kind, rule, bound):
 # ---- The program ---------------------------------------------------------------------------
 
 
-def questions(kind, rule, bound, log):
-    """Number, index and answer of the questions ahead of 10, in order. The slot is the
-    program's own and long enough."""
-    yield 2, 0, kind in KINDS
-    yield 3, 0, (rule == ROWS and bound <= 64) or (rule == SHARE and bound <= 1000)
+def log_questions(log):
+    """Number, index and answer of the questions of a log, in order."""
     yield 4, 0, len(log) % 9 == 0
     yield 5, 0, len(log) // 9 <= 128
     for index, (mark, group, first, last, load) in enumerate(records_of(log)):
@@ -206,6 +208,13 @@ def questions(kind, rule, bound, log):
         yield 7, index, group <= 7
         yield 8, index, first <= last
         yield 9, index, load <= 1000
+
+
+def questions(kind, rule, bound, log):
+    """The questions ahead of 10. The slot is the program's own and long enough."""
+    yield 2, 0, kind in KINDS
+    yield 3, 0, (rule == ROWS and bound <= 64) or (rule == SHARE and bound <= 1000)
+    yield from log_questions(log)
 
 
 def profile(data):
@@ -224,6 +233,82 @@ def profile(data):
     rows, error, weighed = answer
     lines = [(len(rows), error, weighed)] + rows
     return "".join(" ".join(str(number) for number in line) + "\n" for line in lines)
+
+
+# ---- Rows by windows -----------------------------------------------------------------------
+
+
+class Beats:
+    """Windows every so many frames from a start frame on."""
+
+    def __init__(self, length, start):
+        self.length, self.start = length, start
+
+    def words(self):
+        return f"{self.length} {self.start}"
+
+    def question(self):
+        return 18, 0, self.length > 0
+
+    def windows(self):
+        """The frames of each window; there are none after frame 65,535."""
+        frames = range(65536)
+        return [frames[first:first + self.length]
+                for first in frames[self.start::self.length]]
+
+
+class Scenes:
+    """Windows by their first and their last frames."""
+
+    def __init__(self, firsts, lasts):
+        self.firsts, self.lasts = list(firsts), list(lasts)
+
+    def words(self):
+        return " ".join(",".join(map(str, frames)) or "-" for frames in (self.firsts, self.lasts))
+
+    def question(self):
+        scenes = list(zip(self.firsts, self.lasts))
+        in_order = all(first <= last for first, last in scenes) and all(
+            one[1] < other[0] for one, other in zip(scenes, scenes[1:]))
+        return 19, 0, len(self.firsts) == len(self.lasts) and 1 <= len(scenes) <= 16 and in_order
+
+    def windows(self):
+        return [range(first, last + 1) for first, last in zip(self.firsts, self.lasts)]
+
+
+def common(one, other):
+    """The frames that two ranges of frames have in common."""
+    return range(max(one.start, other.start), min(one.stop, other.stop))
+
+
+def window_rows(log, kind, windows):
+    """The rows by group and window: group, first, last, value."""
+    for group in range(8):
+        mine = [(range(first, last + 1), load)
+                for _, g, first, last, load in records_of(log) if g == group]
+        if not mine:
+            continue
+        for window in windows:
+            loads = [load for frames, load in mine if common(frames, window)]
+            if loads:
+                yield group, window[0], window[-1], aggregate(kind, loads)
+
+
+def windows_answer(kind, rule, log):
+    """What a query by windows answers into a slot that is long enough: 'no' with number and index,
+    or the bytes of the slot up to its zeros, in hexadecimal."""
+    order = itertools.chain([(2, 0, kind in KINDS), rule.question()], log_questions(log))
+    for number, index, yes in order:
+        if not yes:
+            return f"no {number} {index}"
+    rows = list(itertools.islice(window_rows(log, kind, rule.windows()), 65))
+    if len(rows) > 64:
+        return "no 20 0"
+    slot = b"PS" + bytes([kind, len(rows)]) + bytes(8)
+    for group, first, last, value in rows:
+        slot += b"PR" + bytes([group]) + first.to_bytes(2, "little")
+        slot += last.to_bytes(2, "little") + value.to_bytes(4, "little")
+    return slot.hex()
 
 
 # ---- The cases -----------------------------------------------------------------------------
@@ -248,6 +333,10 @@ LOG_G = [(0, 0, 3, 100), (0, 2, 5, 200), (0, 6, 6, 210), (0, 9, 10, 50), (1, 0, 
 # Fig. 1(c)), A as group 0 and B as group 1.
 PROJ = [(0, 1, 2, 800), (0, 3, 3, 600), (0, 4, 4, 500), (0, 5, 6, 350), (0, 7, 7, 300),
         (1, 4, 5, 500), (1, 7, 8, 500)]
+
+# The relation of the same example (its Fig. 1(a)), project A as group 0 and B as group 1. Its span
+# aggregation by trimesters is the figure's part (b).
+SALARIES = [(0, 1, 4, 800), (0, 3, 6, 400), (0, 4, 7, 300), (1, 4, 5, 500), (1, 7, 8, 500)]
 
 # The relation of source document 004's example (its Fig. 1a), therapy A as group 0 and B as
 # group 1; the instant aggregation by sum is kind 0.
@@ -434,6 +523,138 @@ def at_random():
         yield case(numbers.choice(KINDS), rule, numbers.randint(0, most), log_of(records))
 
 
+def scene_lists():
+    """Lists of scenes, right and wrong: firsts and lasts."""
+    one_each = list(range(0, 170, 10))
+    yield [], []
+    yield [0], [0]
+    yield [0], [65535]
+    yield [65535], [65535]
+    yield [3], [2]
+    yield [65535], [0]
+    # Touching, sharing a frame, apart, the same twice, one within the other, in wrong order.
+    yield [0, 4], [3, 9]
+    yield [0, 3], [3, 9]
+    yield [0, 7], [3, 9]
+    yield [2, 2], [5, 5]
+    yield [0, 2], [9, 5]
+    yield [7, 0], [9, 3]
+    yield [0, 4, 10], [3, 9, 8]
+    yield [0, 65535], [65534, 65535]
+    yield [0, 65535], [65535, 65535]
+    # More firsts than lasts, and fewer.
+    yield [0], []
+    yield [], [3]
+    yield [0, 4], [3]
+    yield [0], [3, 9]
+    # 15, 16 and 17 scenes of one frame, of ten that touch, and 16 beside 17.
+    for count in (15, 16, 17):
+        frames_of = one_each[:count]
+        yield frames_of, frames_of
+        yield frames_of, [frame + 9 for frame in frames_of]
+    yield one_each[:16], one_each
+    yield one_each, one_each[:16]
+    # The last two of 16 out of order, and the last one backwards.
+    yield one_each[:14] + [150, 140], one_each[:14] + [150, 140]
+    yield one_each[:16], one_each[:15] + [149]
+
+
+def by_windows():
+    """Queries by windows: kind, rule, log."""
+    g, salaries = log_of(LOG_G), log_of(SALARIES)
+    trimesters = Scenes([1, 5], [4, 8])
+    for kind in KINDS:
+        for rule in (Beats(4, 1), trimesters, Beats(4, 0), Beats(1, 0), Beats(3, 2), Beats(8, 4)):
+            yield kind, rule, salaries
+        for length, start in ((1, 0), (2, 1), (4, 0), (4, 3), (7, 3), (65535, 0), (65535, 6)):
+            yield kind, Beats(length, start), g
+        yield kind, Scenes([0, 4], [3, 9]), g
+        yield kind, Scenes([1, 6, 8, 10], [4, 7, 8, 65535]), g
+    for length in (0, 1, 2, 3, 5, 10, 11, 12, 256, 32767, 32768, 65534, 65535):
+        for start in (0, 1, 2, 9, 10, 11, 65534, 65535):
+            yield 0, Beats(length, start), g
+    for lists in scene_lists():
+        yield 0, Scenes(*lists), g
+        yield 1, Scenes(*lists), b""
+        # 128 records of one frame each, all groups.
+        yield 4, Scenes(*lists), log_of([(i % 8, 2 * i, 2 * i, i) for i in range(128)])
+    # The last frames: windows that are cut off, of every length that is near, and the whole.
+    ends = [(0, 65530, 65535, 9), (0, 65533, 65533, 4), (7, 65535, 65535, 3), (2, 0, 65535, 1000)]
+    for kind in (0, 3, 4):
+        for start in (65528, 65529, 65533, 65535):
+            for length in (1, 2, 3, 7, 8, 65535):
+                yield kind, Beats(length, start), log_of(ends)
+        yield kind, Beats(65535, 0), log_of(ends)
+        yield kind, Beats(32768, 0), log_of(ends)
+    yield 0, Beats(1, 0), log_of(ends)
+    # 64 rows and 65: frames of one group, groups of few frames, scenes by groups.
+    for last in (63, 64):
+        yield 0, Beats(1, 0), log_of([(5, 0, last, 7)])
+        yield 3, Beats(1, 65535 - last), log_of([(5, 0, 65535, 7)])
+        yield 2, Beats(600, 0), log_of([(5, 0, 600 * last + 5, 7)])
+    eighths = [(group, 8 * group, 8 * group + 7, group) for group in range(8)]
+    quarters = [(group, 0, 170, 100 * group) for group in range(4)]
+    sixteen = range(0, 160, 10)
+    for more in ([], [(7, 160, 160, 1)], [(7, 40000, 40000, 1)]):
+        yield 0, Beats(1, 0), log_of(eighths + more)
+        yield 0, Scenes(sixteen, sixteen), log_of(quarters + more)
+        yield 4, Scenes(sixteen, [first + 9 for first in sixteen]), log_of(quarters + more)
+    yield 0, Scenes(list(sixteen)[:15] + [160], list(sixteen)[:15] + [160]), log_of(
+        quarters + [(7, 160, 160, 1)])
+    yield 1, Beats(1, 0), log_of([(group, 0, 65535, 1000) for group in range(8)])
+    # The greatest sum, and 129 records.
+    for count in (127, 128, 129):
+        yield 0, Beats(9, 3), log_of([(7, 5, 5, 1000)] * count)
+    # Frames of one record in several windows; records that meet a window in one frame at its end.
+    edges = [(1, 0, 9, 1), (1, 9, 10, 2), (1, 19, 20, 4), (1, 20, 20, 8), (1, 29, 30, 16),
+             (1, 39, 50, 32), (1, 39, 50, 32)]
+    for kind in KINDS:
+        for start in (0, 9, 10, 11):
+            yield kind, Beats(10, start), log_of(edges)
+    # The questions in order: the kind's, the windows', the log's, and 20 at last.
+    wrong = record(1, 9, 5, 2000)
+    for rule in (Beats(0, 0), Beats(1, 0), Scenes([], []), Scenes([0], [9])):
+        for kind in (0, 5, 0x52, 255):
+            for log in (g, g[:-1], bytes(9), wrong, record(9, 9, 5, 2000), record(1, 5, 9, 1001),
+                        g + wrong, log_of([(0, 0, 64, 1)]), log_of([(0, 0, 64, 1)]) + wrong):
+                yield kind, rule, log
+    # Small logs at random.
+    numbers = random.Random(11)
+    for _ in range(150):
+        span = numbers.randint(1, 30)
+        base = numbers.choice((0, 0, 100, 65536 - span))
+        records = []
+        for _ in range(numbers.randint(0, 9)):
+            first, last = sorted(numbers.randrange(span) for _ in range(2))
+            records.append((numbers.choice((0, 0, 3, 7)), base + first, base + last,
+                            numbers.choice((0, 1, 2, 3, 10, 1000))))
+        start = max(0, base + numbers.randint(-3, span))
+        ends = sorted(numbers.randrange(base, base + span) for _ in range(numbers.randint(1, 8)))
+        rule = numbers.choice((Beats(numbers.randint(1, 9), min(start, 65535)),
+                               Scenes(ends[0::2], (ends + [65535])[1::2])))
+        yield numbers.choice(KINDS), rule, log_of(records)
+
+
+WINDOWS_HEAD = """\
+# Queries by windows with their answers, made by tools/expected.py --windows. A line is
+#     beats KIND LENGTH START LOG: ANSWER
+#     scenes KIND FIRSTS LASTS LOG: ANSWER
+# FIRSTS and LASTS are frames with commas between them and LOG is bytes in hexadecimal, each - if
+# there are none. ANSWER is 'no', number and index, or the slot's bytes up to its zeros.
+"""
+
+
+def windows_lines():
+    """The lines of the file of queries by windows, each once."""
+    lines = {}
+    for kind, rule, log in by_windows():
+        name = type(rule).__name__.lower()
+        asked = f"{name} {kind} {rule.words()} {log.hex() or '-'}"
+        if asked not in lines:
+            lines[asked] = windows_answer(kind, rule, log)
+    return [f"{asked}: {answer}\n" for asked, answer in lines.items()]
+
+
 def all_cases():
     """Every case once, in order."""
     return list(dict.fromkeys(itertools.chain(
@@ -467,6 +688,14 @@ def check_known():
     assert reduction(segments_of(g, GREATEST), 0, ROWS, 3)[1] == 14943
     rows = {p: profile(case(GREATEST, SHARE, p, g)).split()[0] for p in (16, 17, 26)}
     assert rows == {16: "5", 17: "4", 26: "4"} and 400 * 1000 > 26 * 14943
+    # The published span aggregation, in hundredths: A 500 and 350, B 500 and 500.
+    trimesters = [(0, 1, 4, 50000), (0, 5, 8, 35000), (1, 1, 4, 50000), (1, 5, 8, 50000)]
+    for rule in (Beats(4, 1), Scenes([1, 5], [4, 8])):
+        assert list(window_rows(log_of(SALARIES), 4, rule.windows()[:2])) == trimesters
+    assert [list(window)[-1] for window in Beats(65535, 0).windows()] == [65534, 65535]
+    assert len(Beats(1, 0).windows()) == 65536
+    assert windows_answer(0, Beats(65535, 6), g) == (
+        "505300010000000000000000" "505200" "0600" "ffff" "04010000")
     # The published reductions: first and last frames are the same, and a row value is the whole
     # number nearest to the published mean.
     assert profile(case(0, ROWS, 4, log_of(PROJ))).split("\n")[1:5] == [
@@ -497,6 +726,13 @@ def main(words):
         with open(words[2], "w", encoding="ascii", newline="\n") as file:
             file.writelines(profile(one) for one in cases)
         print(f"{len(cases)} cases, {len(data)} bytes", file=sys.stderr)
+        return 0
+    if len(words) == 2 and words[0] == "--windows":
+        lines = windows_lines()
+        with open(words[1], "w", encoding="ascii", newline="\n") as file:
+            file.write(WINDOWS_HEAD)
+            file.writelines(lines)
+        print(f"{len(lines)} queries by windows", file=sys.stderr)
         return 0
     print(__doc__, file=sys.stderr)
     return 2

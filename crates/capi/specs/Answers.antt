@@ -1,10 +1,14 @@
 -- What a call says, as the fields of its C answer: question 0 where it is accepted; in a refusal the number and index of the
 -- first 'no', and 0 in every other field. Assumes nothing.
 use Prim.Native.Nat.{ℕ}
+use mathlib.Core.List.{List}
 use mathlib.Core.Option.{Option, none, some}
+use mathlib.Core.Path.{_≡_}
 use Rattle.model.specs.Spans.{Span}
 use Rattle.model.specs.Questions.{Outcome, refused, accepted}
 use Rattle.model.specs.Calls.{Counts, Header}
+use Rattle.model.specs.Demands.{RuledPromise}
+use Rattle.model.specs.declared.RuledQuery.{RuledQuery}
 use Rattle.capi.specs.declared.answers.CRecordAnswer.{CRecordAnswer}
 use Rattle.capi.specs.declared.answers.CQueryAnswer.{CQueryAnswer}
 use Rattle.capi.specs.declared.answers.CSegmentsAnswer.{CSegmentsAnswer}
@@ -25,13 +29,18 @@ queryFields (accepted c) =
     record { question = 0; index = 0; rows = c .rows; error = c .error; weighed = c .weighed }
 queryFields (refused number index) = record { question = number; index = index; rows = 0; error = 0; weighed = 0 }
 
+-- these fields are those of a call that keeps the promise of a query by a rule
+abbrev pub RuledFields : RuledQuery → List ℕ → List ℕ → CQueryAnswer → List ℕ → Type 0
+RuledFields q log slot answer after =
+    (says : Outcome Counts) × (answer ≡ queryFields says) × RuledPromise q log slot says after
+
 unfoldable pub segmentsFields : Outcome ℕ → CSegmentsAnswer
 segmentsFields (accepted count) = record { question = 0; index = 0; count = count }
 segmentsFields (refused number index) = record { question = number; index = index; count = 0 }
 
 unfoldable pub readFields : Outcome Header → CReadAnswer
-readFields (accepted h) = record { question = 0; index = 0; kind = h .kind; rows = h .rows; error = h .error }
-readFields (refused number index) = record { question = number; index = index; kind = 0; rows = 0; error = 0 }
+readFields (accepted h) = record { question = 0; index = 0; kind = h .kind; mark = h .mark; rows = h .rows; error = h .error }
+readFields (refused number index) = record { question = number; index = index; kind = 0; mark = 0; rows = 0; error = 0 }
 
 -- a step that gives no row
 unfoldable pub noRow : ℕ → ℕ → ℕ → CStepAnswer

@@ -32,11 +32,13 @@ pub struct CSegmentsAnswer {
     pub count: usize,
 }
 
+// `mark` is the second byte of the header's mark.
 #[repr(C)]
 pub struct CReadAnswer {
     pub question: u8,
     pub index: usize,
     pub kind: u8,
+    pub mark: u8,
     pub rows: usize,
     pub error: u64,
 }
@@ -128,10 +130,16 @@ pub fn of_read(answer: ReadAnswer) -> CReadAnswer
     ensures { λ r. ⌜ r ≡ readFields (readCase answer) ⌝ }
 {
     match answer {
-        ReadAnswer::Slot { kind, error, rows } => CReadAnswer {
+        ReadAnswer::Slot {
+            mark,
+            kind,
+            error,
+            rows,
+        } => CReadAnswer {
             question: 0,
             index: 0,
             kind,
+            mark,
             rows,
             error,
         },
@@ -139,6 +147,7 @@ pub fn of_read(answer: ReadAnswer) -> CReadAnswer
             question: refusal.question,
             index: refusal.index,
             kind: 0,
+            mark: 0,
             rows: 0,
             error: 0,
         },

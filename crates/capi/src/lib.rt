@@ -17,8 +17,9 @@ ghost use lib.ListN.{length};
 ghost use Rattle.model.specs.Questions.{Outcome};
 ghost use Rattle.model.specs.Demands.{LetterPromise};
 ghost use Rattle.model.specs.Calls.{Counts, writeOutcome, writtenBuffer, letterOutcome, letterSlot, segmentsOutcome, filledList};
+ghost use Rattle.model.specs.Calls.{ruledOutcome, ruledSlot, beatQuery, sceneQuery};
 ghost use Rattle.model.specs.Calls.{readOutcome, readListOutcome, readList, stepOutcome, stepNext, lookupOutcome};
-ghost use Rattle.capi.specs.Answers.{spanOf, recordFields, queryFields, segmentsFields, readFields, stepFields, lookupFields};
+ghost use Rattle.capi.specs.Answers.{spanOf, recordFields, queryFields, RuledFields, segmentsFields, readFields, stepFields, lookupFields};
 
 // Writes a record to the front of a buffer.
 #[no_mangle]
@@ -56,6 +57,42 @@ pub extern "C" fn pacer_query(
     ensures promise { λ r. ⌜ ((says : Outcome Counts) × (r ≡ queryFields says) × LetterPromise kind rule bound (now (log .entry)) (now (slot .entry)) says (now (slot .exit))) ⌝ }
 {
     let answer = pacer::query_by_letter(kind, rule, bound, log, slot);
+    answers::of_query(answer)
+}
+
+// Answers a query about a log by windows of so many frames, from frame `start` on, and writes their rows into a slot.
+#[no_mangle]
+pub extern "C" fn pacer_query_beats(
+    kind: u8,
+    frames: u16,
+    start: u16,
+    log: &[u8],
+    slot: &mut [u8],
+) -> CQueryAnswer
+    ensures says { λ r. ⌜ r ≡ queryFields (ruledOutcome (beatQuery kind frames start) (now (log .entry)) (length (now (slot .entry)))) ⌝ }
+    ensures holds { λ _. ⌜ now (slot .exit) ≡ ruledSlot (beatQuery kind frames start) (now (log .entry)) (now (slot .entry)) ⌝ }
+    ensures promise { λ r. ⌜ RuledFields (beatQuery kind frames start) (now (log .entry)) (now (slot .entry)) r (now (slot .exit)) ⌝ }
+{
+    let query = rules::beats(kind, frames, start);
+    let answer = pacer::query(query, log, slot);
+    answers::of_query(answer)
+}
+
+// Answers a query about a log by scenes, whose first and last frames are two lists, and writes their rows into a slot.
+#[no_mangle]
+pub extern "C" fn pacer_query_scenes(
+    kind: u8,
+    firsts: &[u16],
+    lasts: &[u16],
+    log: &[u8],
+    slot: &mut [u8],
+) -> CQueryAnswer
+    ensures says { λ r. ⌜ r ≡ queryFields (ruledOutcome (sceneQuery kind (now (firsts .entry)) (now (lasts .entry))) (now (log .entry)) (length (now (slot .entry)))) ⌝ }
+    ensures holds { λ _. ⌜ now (slot .exit) ≡ ruledSlot (sceneQuery kind (now (firsts .entry)) (now (lasts .entry))) (now (log .entry)) (now (slot .entry)) ⌝ }
+    ensures promise { λ r. ⌜ RuledFields (sceneQuery kind (now (firsts .entry)) (now (lasts .entry))) (now (log .entry)) (now (slot .entry)) r (now (slot .exit)) ⌝ }
+{
+    let query = rules::scenes(kind, firsts, lasts);
+    let answer = pacer::query(query, log, slot);
     answers::of_query(answer)
 }
 

@@ -32,10 +32,10 @@ unfolding rowsBytes
 rowsBytes-append [] ss = refl
 rowsBytes-append (r ∷ rs) ss = rw (rowsBytes-append rs ss) (sym (append-assoc (rowBytes r) (rowsBytes rs) (rowsBytes ss)))
 
-module _ (kind error count : ℕ) (rows : List Row) where
+module _ (mark kind error count : ℕ) (rows : List Row) where
   -- header and the first i rows
   used : ℕ → List ℕ
-  used i = (0x50 ∷ 0x48 ∷ kind ∷ count ∷ bytesOf 8 error) ++ rowsBytes (rowsIn rows i)
+  used i = (0x50 ∷ mark ∷ kind ∷ count ∷ bytesOf 8 error) ++ rowsBytes (rowsIn rows i)
 
   -- the slot with the first i rows in place
   pub soFar : ℕ → List ℕ
@@ -55,12 +55,12 @@ module _ (kind error count : ℕ) (rows : List Row) where
       omega (arith, length-append (used i) (zeros (756 - 11 * i)), length-used i, length-replicate {A = ℕ} (756 - 11 * i) 0)
 
   -- the header is copied over zeros
-  pub start : (slot header : List ℕ) → slot ≡ zeros 768 → header ≡ 0x50 ∷ 0x48 ∷ kind ∷ count ∷ bytesOf 8 error
+  pub start : (slot header : List ℕ) → slot ≡ zeros 768 → header ≡ 0x50 ∷ mark ∷ kind ∷ count ∷ bytesOf 8 error
       → take (length header) header ++ drop (length header) slot ≡ soFar 0
   unfolding soFar used rowsIn listFrom rowsBytes bytesOf
   start slot header e h =
       rw (take-length header, h, e)
-      (ap (λ (l : List ℕ). 0x50 ∷ 0x48 ∷ kind ∷ count ∷ (bytesOf 8 error ++ l)) (drop-zeros 12 768 (omega arith)))
+      (ap (λ (l : List ℕ). 0x50 ∷ mark ∷ kind ∷ count ∷ (bytesOf 8 error ++ l)) (drop-zeros 12 768 (omega arith)))
 
   -- one row is copied behind those in place
   used-next : (i : ℕ) → used i ++ rowBytes (rowSpan (getD rows i (rowOfSpan nowhere))) ≡ used (i + 1)
@@ -69,7 +69,7 @@ module _ (kind error count : ℕ) (rows : List Row) where
       let row : ℕ → Span ℕ = λ j. rowSpan (getD rows j (rowOfSpan nowhere)) in
       let next : rowsBytes (listFrom 0 (i + 1) row) ≡ rowsBytes (listFrom 0 i row) ++ rowBytes (row i) =
       ap rowsBytes (ap (λ (n : ℕ). listFrom 0 n row) (add-one i) ∙ listFrom-snoc row i) ∙ rowsBytes-append (listFrom 0 i row) (row i ∷ []) ∙ rw append-nil in
-      rw next (append-assoc (0x50 ∷ 0x48 ∷ kind ∷ count ∷ bytesOf 8 error) (rowsBytes (listFrom 0 i row)) (rowBytes (row i)))
+      rw next (append-assoc (0x50 ∷ mark ∷ kind ∷ count ∷ bytesOf 8 error) (rowsBytes (listFrom 0 i row)) (rowBytes (row i)))
 
   -- the row is copied over the front of the slot's part from its place on
   pub turn : (i at : ℕ) (slot row part : List ℕ) → i < 64 → slot ≡ soFar i → at ≡ rowPlace i
@@ -92,11 +92,11 @@ module _ (kind error count : ℕ) (rows : List Row) where
       copied-part at 768 row slot part (ap length b ∙ length-soFar i (omega arith)) p ∙ ap₂ {C = List ℕ} _++_ head tail
 
   -- all rows in place are the slot
-  pub finish : soFar count ≡ slotBytes kind error (rowsIn rows count)
+  pub finish : soFar count ≡ slotBytes mark kind error (rowsIn rows count)
   unfolding soFar used slotBytes usedBytes slotLength
   finish =
       let full : length (rowsIn rows count) ≡ count = length-rowsIn count in
-      let size : length (usedBytes kind error (rowsIn rows count)) ≡ 12 + 11 * count =
-      length-usedBytes kind error (rowsIn rows count) ∙ rw full in
+      let size : length (usedBytes mark kind error (rowsIn rows count)) ≡ 12 + 11 * count =
+      length-usedBytes mark kind error (rowsIn rows count) ∙ rw full in
       let left : 768 - (12 + 11 * count) ≡ 756 - 11 * count = omega arith in
       rw (size, left, full)

@@ -14,14 +14,14 @@ ghost use Rattle.model.specs.Slot.{rowBytes, slotBytes};
 ghost use Rattle.model.specs.Calls.{rowSpan};
 ghost use Rattle.model.specs.Arrays.{rowsIn};
 
-// A slot's header: mark, kind, row count and error.
-fn header_bytes(kind: u8, count: usize, error: u64) -> [u8; 12]
+// A slot's header: mark, whose second byte is given, kind, row count and error.
+fn header_bytes(mark: u8, kind: u8, count: usize, error: u64) -> [u8; 12]
     requires { ⌜ count ≤ 64 ⌝ }
-    ensures { λ r. ⌜ r ≡ 0x50 ∷ 0x48 ∷ kind ∷ count ∷ bytesOf 8 error ⌝ }
+    ensures { λ r. ⌜ r ≡ 0x50 ∷ mark ∷ kind ∷ count ∷ bytesOf 8 error ⌝ }
 {
     [
         0x50,
-        0x48,
+        mark,
         kind,
         count as u8,
         low(error),
@@ -57,13 +57,19 @@ fn row_bytes(row: Row) -> [u8; 11]
     ]
 }
 
-// The slot of a kind, an error and the first `count` rows.
-pub fn layout(kind: u8, error: u64, rows: [Row; MOST_ROWS], count: usize) -> [u8; SLOT_LENGTH]
+// The slot of a mark's second byte, a kind, an error and the first `count` rows.
+pub fn layout(
+    mark: u8,
+    kind: u8,
+    error: u64,
+    rows: [Row; MOST_ROWS],
+    count: usize,
+) -> [u8; SLOT_LENGTH]
     requires { ⌜ count ≤ 64 ⌝ }
-    ensures { λ r. ⌜ r ≡ slotBytes kind error (rowsIn rows count) ⌝ }
+    ensures { λ r. ⌜ r ≡ slotBytes mark kind error (rowsIn rows count) ⌝ }
 {
     let mut slot = no_slot();
-    let header = header_bytes(kind, count, error);
+    let header = header_bytes(mark, kind, count, error);
     bytes::copy(&header, &mut slot);
     let mut i: usize = 0;
     while i < count {

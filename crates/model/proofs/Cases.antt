@@ -1,7 +1,7 @@
 -- The worked cases of the paper's last section, shown of the definitions: every row of a table gives a kind, a log, the
 -- bounds that it is queried with, its segments and its answer ('none' where the query is refused with number 10). Further
 -- tables give what the worked cases leave out, slots and records by their bytes among it. Assumes nothing.
-use Prim.Native.Nat.{ℕ, _-_}
+use Prim.Native.Nat.{ℕ, _-_, _^_}
 use mathlib.Core.Bool.{true}
 use mathlib.Core.List.{List, [], _∷_, _++_, map}
 use mathlib.Core.Option.{Option, none, some, Option·getD}
@@ -16,9 +16,9 @@ use Rattle.model.specs.Log.{recordLength, recordBytes, recordAt, recordC
 use Rattle.model.specs.Segments.{join, fuse, place, framesFrom, groupsFrom, segmentsOf, segments}
 use Rattle.model.specs.Blocks.{segmentAt, gap, lastGap, runsTo, block, empty, totalsOf, add, totals, nearest, valueFor, rowValue, squared, errorWith, blockError, rowOf}
 use Rattle.model.specs.Split.{untried, plus, below, exceeds, weigh, scan, single, cell, least, weighed, cutsOf, rowsOf, fewest, within, firstThat, mostRows, chosen, rowsTried, Reduced, errorOf, gapBelow, runs, leastOf, countFor, reducedTo, reduced}
-use Rattle.model.specs.Slot.{slotLength, rowBytes, rowsBytes, usedBytes, slotBytes, rowPlace, slotKind, slotCount, slotError, slotRow, slotRows, valueIn}
+use Rattle.model.specs.Slot.{slotLength, byBound, rowBytes, rowsBytes, usedBytes, slotBytes, rowPlace, slotMark, slotKind, slotCount, slotError, slotRow, slotRows, valueIn}
 use Rattle.model.specs.Questions.{ask, Outcome, refused, accepted, outcome, each, marked, askRoom, kindKnown, boundKnown, groupKnown, spanQuestions, recordQuestions, mostRecords, logQuestions, orderQuestions, enoughRows, queryQuestions}
-use Rattle.model.specs.Questions.{lent, writeQuestions, follows, inOrder, rowKnown, rowQuestions, zeros, tailZero, slotQuestions}
+use Rattle.model.specs.Questions.{lent, writeQuestions, follows, inOrder, rowKnown, rowQuestions, zeros, tailZero, errorKnown, headerMarked, slotQuestions}
 use Rattle.model.specs.Calls.{Counts, countsOf, logSegments, answerOf, queryOutcome, querySlot, Header, readOutcome, readRows, writeOutcome, writtenBuffer}
 use Rattle.model.specs.Fitting.{FitsFor}
 use Rattle.model.specs.Demands.{whole}
@@ -217,7 +217,7 @@ abbrev Holds : Case → Type 0
 Holds c =
     (logSegments (c .kind) (bytes (c .log)) ≡ c .segments) × Answers (c .kind) (bytes (c .log)) (c .answer) (c .bounds)
 
-abbrev All : {A : Type 0} → (A → Type 0) → List A → Type 0
+abbrev pub All : {A : Type 0} → (A → Type 0) → List A → Type 0
 All P [] = Unit {0}
 All P (c ∷ cs) = P c × All P cs
 
@@ -280,6 +280,7 @@ last-frame = (refl, refl, refl)
 
 -- rows laid out under a kind and an error, their bytes up to the zeros, what the reader says of the slot, and the rows read
 record SlotCase : Type 0 where
+  mark : ℕ
   kind : ℕ
   error : ℕ
   rows : List (Span ℕ)
@@ -287,12 +288,12 @@ record SlotCase : Type 0 where
   answer : Outcome Header
   read : List (Span ℕ)
 
-abbrev slotCase : ℕ → ℕ → List (Span ℕ) → List ℕ → Outcome Header → List (Span ℕ) → SlotCase
-slotCase kind error rows bytes answer read =
-    record { kind = kind; error = error; rows = rows; bytes = bytes; answer = answer; read = read }
+abbrev slotCase : ℕ → ℕ → ℕ → List (Span ℕ) → List ℕ → Outcome Header → List (Span ℕ) → SlotCase
+slotCase mark kind error rows bytes answer read =
+    record { mark = mark; kind = kind; error = error; rows = rows; bytes = bytes; answer = answer; read = read }
 
-abbrev header : ℕ → ℕ → ℕ → Outcome Header
-header kind error rows = accepted (record { kind = kind; error = error; rows = rows })
+abbrev header : ℕ → ℕ → ℕ → ℕ → Outcome Header
+header mark kind error rows = accepted (record { mark = mark; kind = kind; error = error; rows = rows })
 
 -- the four rows of G with c = 4
 abbrev pub rows-G : List (Span ℕ)
@@ -310,31 +311,40 @@ bytes-G =
 abbrev slot-cases : List SlotCase
 slot-cases =
     -- G, c = 4
-    slotCase 0 11280 rows-G bytes-G (header 0 11280 4) rows-G
+    slotCase 0x48 0 11280 rows-G bytes-G (header 0x48 0 11280 4) rows-G
     ∷
     -- every number of several bytes with its bytes in order
-    slotCase 4 0x0807060504030201 (span 7 0x0201 0x0403 0x01F400 ∷ [])
+    slotCase 0x48 4 0x0807060504030201 (span 7 0x0201 0x0403 0x01F400 ∷ [])
     (0x50 ∷ 0x48 ∷ 4 ∷ 1 ∷ 1 ∷ 2 ∷ 3 ∷ 4 ∷ 5 ∷ 6 ∷ 7 ∷ 8
     ∷ 0x50 ∷ 0x52 ∷ 7 ∷ 1 ∷ 2 ∷ 3 ∷ 4 ∷ 0 ∷ 0xF4 ∷ 1 ∷ 0 ∷ [])
-    (header 4 0x0807060504030201 1) (span 7 0x0201 0x0403 0x01F400 ∷ [])
+    (header 0x48 4 0x0807060504030201 1) (span 7 0x0201 0x0403 0x01F400 ∷ [])
     ∷
     -- kind 5: question 12
-    slotCase 5 0 [] (0x50 ∷ 0x48 ∷ 5 ∷ []) (refused 12 0) []
+    slotCase 0x48 5 0 [] (0x50 ∷ 0x48 ∷ 5 ∷ []) (refused 12 0) []
     ∷
     -- two rows that share a frame: question 16, of the second
-    slotCase 0 0 (span 0 0 3 1 ∷ span 0 3 5 2 ∷ [])
+    slotCase 0x48 0 0 (span 0 0 3 1 ∷ span 0 3 5 2 ∷ [])
     (0x50 ∷ 0x48 ∷ 0 ∷ 2 ∷ 0 ∷ 0 ∷ 0 ∷ 0 ∷ 0 ∷ 0 ∷ 0 ∷ 0
     ∷ 0x50 ∷ 0x52 ∷ 0 ∷ 0 ∷ 0 ∷ 3 ∷ 0 ∷ 1 ∷ 0 ∷ 0 ∷ 0
     ∷ 0x50 ∷ 0x52 ∷ 0 ∷ 3 ∷ 0 ∷ 5 ∷ 0 ∷ 2 ∷ 0 ∷ 0 ∷ 0 ∷ [])
     (refused 16 1) []
+    ∷
+    -- by windows: a row, and an error that is not 0: question 17
+    slotCase 0x53 3 0 (span 1 2 3 4 ∷ [])
+    (0x50 ∷ 0x53 ∷ 3 ∷ 1 ∷ 0 ∷ 0 ∷ 0 ∷ 0 ∷ 0 ∷ 0 ∷ 0 ∷ 0 ∷ 0x50 ∷ 0x52 ∷ 1 ∷ 2 ∷ 0 ∷ 3 ∷ 0 ∷ 4 ∷ 0 ∷ 0 ∷ 0 ∷ [])
+    (header 0x53 3 0 1) (span 1 2 3 4 ∷ [])
+    ∷ slotCase 0x53 0 (2 ^ 56) [] (0x50 ∷ 0x53 ∷ 0 ∷ 0 ∷ 0 ∷ 0 ∷ 0 ∷ 0 ∷ 0 ∷ 0 ∷ 0 ∷ 1 ∷ []) (refused 17 0) []
+    ∷
+    -- another mark: question 11
+    slotCase 0x43 0 0 [] (0x50 ∷ 0x43 ∷ []) (refused 11 0) []
     ∷ []
 
-abbrev wholeSlot : List ℕ → List ℕ
+abbrev pub wholeSlot : List ℕ → List ℕ
 wholeSlot used = used ++ replicate (768 - length used) 0
 
 abbrev SlotHolds : SlotCase → Type 0
 SlotHolds c =
-    (slotBytes (c .kind) (c .error) (c .rows) ≡ wholeSlot (c .bytes))
+    (slotBytes (c .mark) (c .kind) (c .error) (c .rows) ≡ wholeSlot (c .bytes))
     × (readOutcome (wholeSlot (c .bytes)) ≡ c .answer) × (readRows (wholeSlot (c .bytes)) ≡ c .read)
 
 -- ---- records by their bytes
@@ -372,9 +382,9 @@ RecordHolds c =
 
 -- Every row of these two tables holds.
 pub byte-cases : All SlotHolds slot-cases × All RecordHolds record-cases
-unfolding listFrom numberAt bytesOf slotLength rowBytes rowsBytes usedBytes slotBytes rowPlace slotKind slotCount slotError slotRow slotRows ask outcome lent each marked askRoom kindKnown groupKnown spanQuestions mostRows follows inOrder rowKnown rowQuestions zeros tailZero slotQuestions readOutcome readRows recordLength recordBytes writeQuestions writeOutcome writtenBuffer
+unfolding listFrom numberAt bytesOf slotLength rowBytes rowsBytes usedBytes slotBytes rowPlace slotMark slotKind slotCount slotError slotRow slotRows ask outcome lent each marked askRoom kindKnown groupKnown spanQuestions mostRows follows inOrder rowKnown rowQuestions zeros tailZero errorKnown headerMarked slotQuestions readOutcome readRows recordLength recordBytes writeQuestions writeOutcome writtenBuffer
 byte-cases = (
-  ((refl, refl, refl), ((refl, refl, refl), ((refl, refl, refl), ((refl, refl, refl), tt)))),
+  ((refl, refl, refl), ((refl, refl, refl), ((refl, refl, refl), ((refl, refl, refl), ((refl, refl, refl), ((refl, refl, refl), ((refl, refl, refl), tt))))))),
   ((refl, refl), ((refl, refl), ((refl, refl), ((refl, refl), ((refl, refl), ((refl, refl), tt)))))),
 )
 
@@ -385,7 +395,7 @@ slotOn q log segs slot =
     let answer = Option·getD (reduced (q .kind) (q .bound) segs) (record { rows = []; error = 0; weighed = 0 }) in
     lent
     (askRoom slotLength (length slot) ∷ (orderQuestions q log ++ (ask 10 0 (isSome (countFor (q .kind) (q .bound) segs)) ∷ [])))
-    (slotBytes (q .kind) (answer .error) (answer .rows) ++ drop slotLength slot)
+    (slotBytes byBound (q .kind) (answer .error) (answer .rows) ++ drop slotLength slot)
     slot
 
 slot-on : (q : Query) (log : List ℕ) (segs : List (Span ℕ)) (slot : List ℕ) → logSegments (q .kind) log ≡ segs

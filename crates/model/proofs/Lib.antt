@@ -1,3 +1,4 @@
 -- The paper's worked cases, shown of the definitions.
 pub mod Page
 pub mod Cases
+pub mod WindowCases

@@ -5,20 +5,25 @@ use mathlib.Core.Bool.{false, cond}
 use mathlib.Core.List.{List, [], _∷_, _++_, map}
 use mathlib.Core.Option.{Option, none, some, Option·getD}
 use lib.Dec.{ltb, eqb}
-use lib.ListN.{length, drop}
+use lib.ListN.{length, take, drop, replicate}
 use Rattle.model.specs.Spans.{Span}
 use Rattle.model.specs.Log.{recordLength, recordBytes, records}
 use Rattle.model.specs.Segments.{segments}
 use Rattle.model.specs.Split.{mostRows, Reduced, reduced}
-use Rattle.model.specs.Slot.{slotLength, slotBytes, slotKind, slotCount, slotError, slotRow, slotRows, valueIn}
+use Rattle.model.specs.Windows.{boundIn}
+use Rattle.model.specs.Slot.{slotLength, byBound, byWindows, slotBytes, slotMark, slotKind, slotCount, slotError, slotRow, slotRows, valueIn}
 use Rattle.model.specs.Questions.{Question, ask, askRoom, kindKnown, Outcome, refused, accepted, outcome, lent}
 use Rattle.model.specs.Questions.{writeQuestions, segmentsQuestions, queryQuestions, slotQuestions, lookupQuestions}
+use Rattle.model.specs.Questions.{mostScenes, withBound, windowRows, ruledQuestions}
 use Rattle.model.specs.declared.Record.{Record}
 use Rattle.model.specs.declared.Segment.{Segment}
 use Rattle.model.specs.declared.Row.{Row}
 use Rattle.model.specs.declared.Bound.{Bound}
 use Rattle.model.specs.declared.Bound.the-variants.{Rows, Share}
 use Rattle.model.specs.declared.Query.{Query}
+use Rattle.model.specs.declared.Rule.{Rule}
+use Rattle.model.specs.declared.Rule.the-variants as rule
+use Rattle.model.specs.declared.RuledQuery.{RuledQuery}
 use Rattle.model.specs.declared.Asked.{Asked}
 use Rattle.model.specs.declared.Asked.the-variants as asked
 use Rattle.model.specs.declared.RecordAnswer.{RecordAnswer}
@@ -118,8 +123,58 @@ queryWeighed q log room = lent (queryQuestions q log room) ((answerOf q log) .we
 unfoldable pub querySlot : Query → List ℕ → List ℕ → List ℕ
 querySlot q log slot =
     lent (queryQuestions q log (length slot))
-    (slotBytes (q .kind) ((answerOf q log) .error) ((answerOf q log) .rows) ++ drop slotLength slot)
+    (slotBytes byBound (q .kind) ((answerOf q log) .error) ((answerOf q log) .rows) ++ drop slotLength slot)
     slot
+
+-- The query by a rule: that of its bound, or rows by windows, which have no error and weigh no cuts.
+
+unfoldable pub ruledAnswer : RuledQuery → List ℕ → Reduced
+ruledAnswer q log =
+    elim (boundIn (q .rule)) [
+      | none ↦ record { rows = windowRows q log; error = 0; weighed = 0 }
+      | some bound ↦ answerOf (withBound q bound) log
+    ]
+
+unfoldable pub ruledMark : RuledQuery → ℕ
+ruledMark q = elim (boundIn (q .rule)) [ none ↦ byWindows | some bound ↦ byBound ]
+
+unfoldable pub ruledOutcome : RuledQuery → List ℕ → ℕ → Outcome Counts
+ruledOutcome q log room = outcome (ruledQuestions q log room) (countsOf (ruledAnswer q log))
+
+unfoldable pub ruledWeighed : RuledQuery → List ℕ → ℕ → ℕ
+ruledWeighed q log room = lent (ruledQuestions q log room) ((ruledAnswer q log) .weighed) 0
+
+unfoldable pub ruledSlot : RuledQuery → List ℕ → List ℕ → List ℕ
+ruledSlot q log slot =
+    lent (ruledQuestions q log (length slot))
+    (slotBytes (ruledMark q) (q .kind) ((ruledAnswer q log) .error) ((ruledAnswer q log) .rows) ++ drop slotLength slot)
+    slot
+
+-- Queries by a rule: with a bound, every so many frames from a start frame on, and by scenes, whose first and last frames are two
+-- lists. Lists of unequal length are no count of scenes.
+
+unfoldable pub noFrames : List ℕ
+noFrames = replicate mostScenes 0
+
+unfoldable pub ruleOf : Bound → Rule
+ruleOf (Rows c) = rule.Rows c
+ruleOf (Share p) = rule.Share p
+
+unfoldable pub boundedQuery : Query → RuledQuery
+boundedQuery q = record { kind = q .kind; rule = ruleOf (q .bound); firsts = noFrames; lasts = noFrames }
+
+unfoldable pub beatQuery : ℕ → ℕ → ℕ → RuledQuery
+beatQuery kind length start =
+    record { kind = kind; rule = rule.Every length start; firsts = noFrames; lasts = noFrames }
+
+unfoldable pub sceneQuery : ℕ → List ℕ → List ℕ → RuledQuery
+sceneQuery kind firsts lasts =
+    record {
+      kind = kind;
+      rule = rule.Scenes (cond (eqb (length firsts) (length lasts)) (length firsts) 0);
+      firsts = take mostScenes (firsts ++ noFrames);
+      lasts = take mostScenes (lasts ++ noFrames);
+    }
 
 -- A query whose bound is given by a letter and a number: 52 for a row limit, 45 for a share. Any other letter is question 3's
 -- 'no'.
@@ -155,20 +210,23 @@ letterWeighed kind letter x log room =
     elim (boundOf letter x)
     [ none ↦ 0 | some bound ↦ queryWeighed (record { kind = kind; bound = bound }) log room ]
 
--- The reader: kind, error and row count, and the rows beside them.
+-- The reader: which header, kind, error and row count, and the rows beside them.
 
 pub record Header : Type 0 where
+  pub mark : ℕ
   pub kind : ℕ
   pub error : ℕ
   pub rows : ℕ
 
 unfoldable pub readCase : ReadAnswer → Outcome Header
-readCase (read-answer.Slot kind error rows) = accepted (record { kind = kind; error = error; rows = rows })
+readCase (read-answer.Slot mark kind error rows) =
+    accepted (record { mark = mark; kind = kind; error = error; rows = rows })
 readCase (read-answer.Refused r) = refused (r .question) (r .index)
 
 -- what the slot's first bytes say
 abbrev pub headerOf : List ℕ → Header
-headerOf slot = record { kind = slotKind slot; error = slotError slot; rows = slotCount slot }
+headerOf slot =
+    record { mark = slotMark slot; kind = slotKind slot; error = slotError slot; rows = slotCount slot }
 
 unfoldable pub readOutcome : List ℕ → Outcome Header
 readOutcome slot = outcome (slotQuestions slot) (headerOf slot)

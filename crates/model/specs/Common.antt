@@ -1,7 +1,7 @@
 -- Sums, lists and numbers in bytes: what the other definitions are written with.
 use Prim.Native.Nat.{ℕ, zero, suc, _+_, _*_, _/_, _%_}
-use mathlib.Core.Bool.{Bool, true, false}
-use mathlib.Core.List.{List, [], _∷_}
+use mathlib.Core.Bool.{Bool, true, false, _&&_}
+use mathlib.Core.List.{List, [], _∷_, _++_}
 use mathlib.Core.Option.{Option, none, some}
 use lib.ListN.{getD}
 
@@ -19,6 +19,16 @@ sumOf h (a ∷ rest) = h a + sumOf h rest
 unfoldable pub listFrom : {A : Type 0} → ℕ → ℕ → (ℕ → A) → List A
 listFrom from zero h = []
 listFrom from (suc count) h = h from ∷ listFrom (suc from) count h
+
+-- the test holds of `count` numbers from `from` on
+unfoldable pub every : (ℕ → Bool) → ℕ → ℕ → Bool
+every test from zero = true
+every test from (suc count) = test from && every test (suc from) count
+
+-- the lists h a, one after the other
+unfoldable pub joined : {A B : Type 0} → (A → List B) → List A → List B
+joined h [] = []
+joined h (a ∷ rest) = h a ++ joined h rest
 
 unfoldable pub isSome : {A : Type 0} → Option A → Bool
 isSome none = false

@@ -1,6 +1,6 @@
 -- What the tool owes its user, as statements about the definitions. The proofs are in the crate `theory`; the calls of the
 -- tool promise to answer as the definitions do, so that each statement is one about the calls.
-use Prim.Native.Nat.{ℕ, suc, _*_, _^_, _≤_, _<_}
+use Prim.Native.Nat.{ℕ, suc, _+_, _*_, _^_, _≤_, _<_, min}
 use mathlib.Core.Bool.{true, false}
 use mathlib.Core.List.{List, [], _∷_, _++_, map, List·Memᴰ}
 use mathlib.Core.Logic.{_⊎_, _↔_}
@@ -9,20 +9,26 @@ use mathlib.Core.Path.{_≡_}
 use lib.IntN.{ℤ, pos}
 use lib.ListN.{length, getD, take}
 use Rattle.model.specs.Common.{sumOf}
-use Rattle.model.specs.Spans.{Span, spanLength, adjacent}
-use Rattle.model.specs.Log.{records, meeting, sum, greatestKind, value}
+use Rattle.model.specs.Spans.{Span, groupCount, frameCount, spanLength, meets, adjacent}
+use Rattle.model.specs.Log.{records, meeting, sum, greatestKind, aggregated, value}
 use Rattle.model.specs.Blocks.{segmentAt, gap, totals, rowValue}
 use Rattle.model.specs.Split.{Reduced, errorOf, gapBelow, runs, rowsOf, mostRows}
 use Rattle.model.specs.Reductions.{IsReduction, Merges, IsAnswer, reductionError}
-use Rattle.model.specs.Slot.{slotLength, slotBytes, valueIn}
+use Rattle.model.specs.Windows.{boundIn}
+use Rattle.model.specs.Slot.{slotLength, byBound, byWindows, slotBytes, valueIn}
 use Rattle.model.specs.Questions.{Question, Outcome, refused, accepted, kindKnown, boundKnown, rowKnown, follows}
 use Rattle.model.specs.Questions.{logQuestions, orderQuestions, writeQuestions, segmentsQuestions, queryQuestions, slotQuestions, lookupQuestions, mostSegments}
+use Rattle.model.specs.Questions.{ruleQuestion, withBound, windowRows, ruledOrder, ruledQuestions}
 use Rattle.model.specs.Calls.{Counts, Header, writeOutcome, writtenBuffer, segmentsOutcome, filledList, logSegments, queryOutcome, querySlot, answerOf, countsOf, readOutcome, readRows, readListQuestions, readListOutcome, readList, stepOutcome, stepNext, lookupOutcome}
+use Rattle.model.specs.Calls.{ruledOutcome, ruledWeighed, ruledSlot, beatQuery}
 use Rattle.model.specs.Calls.{cutsWeighed, queryWeighed, boundOf, byLetterQuestions, letterOutcome, letterSlot, letterWeighed}
 use Rattle.model.specs.Guarantee.{Choices, LeastOfFewest, BestRows, NoRows}
 use Rattle.model.specs.Fitting.{hits, due, FitsFor, rowLists}
 use Rattle.model.specs.declared.Bound.{Bound}
 use Rattle.model.specs.declared.Query.{Query}
+use Rattle.model.specs.declared.Rule.{Rule}
+use Rattle.model.specs.declared.Rule.the-variants.{Rows, Share, Every, Scenes}
+use Rattle.model.specs.declared.RuledQuery.{RuledQuery}
 use Rattle.model.specs.declared.Segment.{Segment}
 use Rattle.model.specs.declared.Row.{Row}
 
@@ -56,6 +62,8 @@ pub record Demand1 : Type 0 where
       (filledList kind log list)
   pub query : (q : Query) (log slot : List ℕ)
       → Asks (queryQuestions q log (length slot)) (queryOutcome q log (length slot)) slot (querySlot q log slot)
+  pub ruled : (q : RuledQuery) (log slot : List ℕ)
+      → Asks (ruledQuestions q log (length slot)) (ruledOutcome q log (length slot)) slot (ruledSlot q log slot)
   pub letter : (kind letter x : ℕ) (log slot : List ℕ)
       → Asks (byLetterQuestions kind letter x log (length slot)) (letterOutcome kind letter x log (length slot)) slot
       (letterSlot kind letter x log slot)
@@ -102,8 +110,34 @@ pub record Cut (kind : ℕ) (segs : List (Span ℕ)) (a : Reduced) (cuts : List 
 abbrev pub Reduces : ℕ → Bound → List (Span ℕ) → List ℕ → Type 0
 Reduces kind bound segs cuts = IsAnswer (errorOf kind segs) (gapBelow segs) (length segs) (runs segs) bound cuts
 
--- what a slot can hold
-pub record Storable (kind error : ℕ) (rows : List (Span ℕ)) : Type 0 where
+-- the windows of a rule, from frame a to frame b. Every `length` frames from frame `start` on: those that begin at a frame, the
+-- last cut off at 65,535. Scenes: those given. A bound has none.
+abbrev pub WindowOf : Rule → List ℕ → List ℕ → ℕ → ℕ → Type 0
+WindowOf (Rows c) firsts lasts a b = ⊥
+WindowOf (Share p) firsts lasts a b = ⊥
+WindowOf (Every length start) firsts lasts a b =
+    (i : ℕ) × (a ≡ start + length * i) × (a < frameCount) × (suc b ≡ min (a + length) frameCount)
+WindowOf (Scenes count) firsts lasts a b =
+    (i : ℕ) × (i < count) × (a ≡ getD firsts i 0) × (b ≡ getD lasts i 0)
+
+abbrev pub IsWindow : RuledQuery → ℕ → ℕ → Type 0
+IsWindow q a b = WindowOf (q .rule) (q .firsts) (q .lasts) a b
+
+-- the span aggregation of a log. Every row is one of a group and a window, with the window's own first and last frame and the
+-- kind's aggregate over all records of the group that meet the window. Every window that some record of a group meets has its row.
+-- The rows stand by group, then by window.
+pub record SpanAggregation (q : RuledQuery) (log : List ℕ) (rows : List (Span ℕ)) : Type 0 where
+  pub isDue : (r : Span ℕ) → List·Memᴰ r rows
+      → (r .group < groupCount) × IsWindow q (r .first) (r .last)
+      × (aggregated (q .kind) (meeting (records log) (r .group) (r .first) (r .last)) ≡ some (r .value))
+  pub isThere : (g a b : ℕ) → g < groupCount → IsWindow q a b
+      → (m : Span ℕ) → List·Memᴰ m (records log) → meets m g a b ≡ true
+      → (v : ℕ) × List·Memᴰ (record { group = g; first = a; last = b; value = v }) rows
+  pub sorted : (i : ℕ) → suc i < length rows → Before (segmentAt rows i) (segmentAt rows (suc i))
+
+-- what a slot can hold, by a bound or, without an error, by windows
+pub record Storable (mark kind error : ℕ) (rows : List (Span ℕ)) : Type 0 where
+  pub made : (mark ≡ byBound) ⊎ ((mark ≡ byWindows) × (error ≡ 0))
   pub known : kindKnown kind ≡ true
   pub error64 : error < 2 ^ 64
   pub count : length rows ≤ mostRows
@@ -113,9 +147,9 @@ pub record Storable (kind error : ℕ) (rows : List (Span ℕ)) : Type 0 where
 abbrev pub Bytes : List ℕ → Type 0
 Bytes bytes = (i : ℕ) → getD bytes i 0 < 256
 
--- the slot is read to this kind, error and rows
-pub record Reads (slot : List ℕ) (kind error : ℕ) (rows : List (Span ℕ)) : Type 0 where
-  pub header : readOutcome slot ≡ accepted (record { kind = kind; error = error; rows = length rows })
+-- the slot is read to this header, kind, error and rows
+pub record Reads (slot : List ℕ) (mark kind error : ℕ) (rows : List (Span ℕ)) : Type 0 where
+  pub header : readOutcome slot ≡ accepted (record { mark = mark; kind = kind; error = error; rows = length rows })
   pub body : readRows slot ≡ rows
 
 pub record Demand2 : Type 0 where
@@ -142,17 +176,23 @@ pub record Demand2 : Type 0 where
       → (answerOf q [] ≡ record { rows = []; error = 0; weighed = 0 })
       × (queryOutcome q [] room ≡ accepted (record { rows = 0; error = 0; weighed = 0 }))
   pub written : (q : Query) (log slot : List ℕ) (counts : Counts) → queryOutcome q log (length slot) ≡ accepted counts
-      → Reads (querySlot q log slot) (q .kind) ((answerOf q log) .error) ((answerOf q log) .rows)
-  pub roundTrip : (kind error : ℕ) (rows : List (Span ℕ)) (rest : List ℕ) → Storable kind error rows
-      → Reads (slotBytes kind error rows ++ rest) kind error rows
+      → Reads (querySlot q log slot) byBound (q .kind) ((answerOf q log) .error) ((answerOf q log) .rows)
+  pub roundTrip : (mark kind error : ℕ) (rows : List (Span ℕ)) (rest : List ℕ) → Storable mark kind error rows
+      → Reads (slotBytes mark kind error rows ++ rest) mark kind error rows
   -- a slot is read whichever kind's rule its rows were made by: one of kind 3 whose rows hold nearest whole numbers, as they were
   -- written before, still reads
   pub stillRead : (rule kind : ℕ) (log cuts rest : List ℕ) (a : Reduced) → kindKnown kind ≡ true
       → AllPass (logQuestions log) → Cut rule (logSegments kind log) a cuts
       → IsReduction (gapBelow (logSegments kind log)) (length (logSegments kind log)) cuts → length cuts ≤ mostRows
-      → Reads (slotBytes kind (a .error) (a .rows) ++ rest) kind (a .error) (a .rows)
+      → Reads (slotBytes byBound kind (a .error) (a .rows) ++ rest) byBound kind (a .error) (a .rows)
   pub layout : (slot : List ℕ) (header : Header) → Bytes slot → readOutcome slot ≡ accepted header
-      → take slotLength slot ≡ slotBytes (header .kind) (header .error) (readRows slot)
+      → take slotLength slot ≡ slotBytes (header .mark) (header .kind) (header .error) (readRows slot)
+  -- rows by windows that pass 18 or 19 are the span aggregation of the log, and nothing else is
+  pub windows : (q : RuledQuery) (log : List ℕ) → boundIn (q .rule) ≡ none → (ruleQuestion q) .passed ≡ true
+      → (rows : List (Span ℕ)) → SpanAggregation q log rows ↔ (rows ≡ windowRows q log)
+  -- windows of one frame give the frames' own values
+  pub frameByFrame : (kind start : ℕ) (log : List ℕ) (g f : ℕ) → start ≤ f
+      → valueIn (windowRows (beatQuery kind 1 start) log) g f ≡ value kind (records log) g f
 
 -- Demand 3.
 
@@ -168,7 +208,7 @@ listsFor kind log = rowLists kind (value kind (records log))
 pub record BestSlot (q : Query) (log slot : List ℕ) : Type 0 where
   pub error : ℕ
   pub rows : List (Span ℕ)
-  pub reads : Reads slot (q .kind) error rows
+  pub reads : Reads slot byBound (q .kind) error rows
   pub answerError : error ≡ (answerOf q log) .error
   pub answerRows : rows ≡ (answerOf q log) .rows
   pub best : BestRows (listsFor (q .kind) log) (q .bound) error (map whole rows)
@@ -207,6 +247,30 @@ pub record QueryPromise (q : Query) (log slot : List ℕ) (says : Outcome Counts
   pub best : (counts : Counts) → says ≡ accepted counts → BestSlot q log after
   pub neverShort : (counts : Counts) → says ≡ accepted counts → NeverShort q log (readRows after)
   pub tooFew : slotLength ≤ length slot → AllPass (orderQuestions q log) → SaysTooFew q log says
+
+-- the slot of a query by windows is read to the span aggregation of the log, with error 0, and no cut was weighed
+pub record SpanSlot (q : RuledQuery) (log slot : List ℕ) (counts : Counts) : Type 0 where
+  pub rows : List (Span ℕ)
+  pub reads : Reads slot byWindows (q .kind) 0 rows
+  pub aggregation : SpanAggregation q log rows
+  pub counted : counts ≡ record { rows = length rows; error = 0; weighed = 0 }
+
+-- 'too many rows' is said exactly where the span aggregation has more than 64
+abbrev pub SaysTooMany : RuledQuery → List ℕ → Outcome Counts → Type 0
+SaysTooMany q log says =
+    (says ≡ refused 20 0) ↔ ((rows : List (Span ℕ)) × SpanAggregation q log rows × (mostRows < length rows))
+
+-- a query by windows is never refused for too few rows
+pub record WindowPromise (q : RuledQuery) (log slot : List ℕ) (says : Outcome Counts) (after : List ℕ) : Type 0 where
+  pub spans : (counts : Counts) → says ≡ accepted counts → SpanSlot q log after counts
+  pub notTooFew : (index : ℕ) → says ≡ refused 10 index → ⊥
+  pub tooMany : slotLength ≤ length slot → AllPass (ruledOrder q log) → SaysTooMany q log says
+
+-- a query by a rule: the promise of its bound, or of its windows
+pub record RuledPromise (q : RuledQuery) (log slot : List ℕ) (says : Outcome Counts) (after : List ℕ) : Type 0 where
+  pub weighed : cutsWeighed says ≡ ruledWeighed q log (length slot)
+  pub bounded : (bound : Bound) → boundIn (q .rule) ≡ some bound → QueryPromise (withBound q bound) log slot says after
+  pub windowed : boundIn (q .rule) ≡ none → WindowPromise q log slot says after
 
 -- the same of a query by letter, for the bound that the letter names
 pub record LetterPromise (kind letter x : ℕ) (log slot : List ℕ) (says : Outcome Counts) (after : List ℕ) : Type 0 where

@@ -6,6 +6,7 @@ pub mod Segments
 pub mod Blocks
 pub mod Split
 pub mod Reductions
+pub mod Windows
 pub mod Slot
 pub mod Questions
 pub mod Calls

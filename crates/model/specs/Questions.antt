@@ -1,18 +1,22 @@
 -- The questions, in the paper's order. A call's questions are a list; the first that is answered 'no' refuses the call.
 use Prim.Native.Nat.{ℕ, zero, suc, _-_, _*_, _%_}
 use mathlib.Core.Bool.{Bool, true, _&&_, _||_, cond}
+use mathlib.Core.Option.{none, some}
 use mathlib.Core.List.{List, [], _∷_, _++_}
 use lib.Dec.{leb, ltb, eqb}
 use lib.ListN.{length, getD}
-use Rattle.model.specs.Common.{isSome}
-use Rattle.model.specs.Spans.{Span}
+use Rattle.model.specs.Common.{every, isSome}
+use Rattle.model.specs.Spans.{Span, frameCount}
 use Rattle.model.specs.Log.{recordLength, recordAt, recordCount, records}
 use Rattle.model.specs.Segments.{segments}
 use Rattle.model.specs.Split.{mostRows, countFor}
-use Rattle.model.specs.Slot.{slotLength, rowPlace, slotKind, slotCount, slotRow}
+use Rattle.model.specs.Windows.{boundIn, windows, spanRows}
+use Rattle.model.specs.Slot.{slotLength, byBound, byWindows, rowPlace, slotMark, slotKind, slotCount, slotError, slotRow}
 use Rattle.model.specs.declared.Bound.{Bound}
 use Rattle.model.specs.declared.Bound.the-variants.{Rows, Share}
 use Rattle.model.specs.declared.Query.{Query}
+use Rattle.model.specs.declared.Rule.the-variants as rule
+use Rattle.model.specs.declared.RuledQuery.{RuledQuery}
 
 pub record Question : Type 0 where
   pub number : ℕ
@@ -94,6 +98,55 @@ unfoldable pub queryQuestions : Query → List ℕ → ℕ → List Question
 queryQuestions q log room =
     askRoom slotLength room ∷ (orderQuestions q log ++ (ask 10 0 (enoughRows q log) ∷ []))
 
+-- scene i is from a first frame to a last one, wholly after the scene before
+unfoldable pub sceneFollows : List ℕ → List ℕ → ℕ → Bool
+sceneFollows firsts lasts zero = true
+sceneFollows firsts lasts (suc i) = ltb (getD lasts i 0) (getD firsts (suc i) 0)
+
+unfoldable pub sceneKnown : List ℕ → List ℕ → ℕ → Bool
+sceneKnown firsts lasts i =
+    leb (getD firsts i 0) (getD lasts i 0) && ltb (getD lasts i 0) frameCount && sceneFollows firsts lasts i
+
+unfoldable pub mostScenes : ℕ
+mostScenes = 16
+
+-- 1 to 16 scenes, each as it must be
+unfoldable pub scenesKnown : List ℕ → List ℕ → ℕ → Bool
+scenesKnown firsts lasts count = leb 1 count && leb count mostScenes && every (sceneKnown firsts lasts) 0 count
+
+-- 3 of a rule that is a bound, 18 of windows every so many frames, 19 of scenes
+unfoldable pub ruleQuestion : RuledQuery → Question
+ruleQuestion q =
+    elim (q .rule) [
+      | rule.Rows c ↦ ask 3 0 (boundKnown (Rows c))
+      | rule.Share p ↦ ask 3 0 (boundKnown (Share p))
+      | rule.Every length start ↦ ask 18 0 (ltb 0 length)
+      | rule.Scenes count ↦ ask 19 0 (scenesKnown (q .firsts) (q .lasts) count)
+    ]
+
+-- the query by a bound that a query by a rule is, where its rule is one
+abbrev pub withBound : RuledQuery → Bound → Query
+withBound q bound = record { kind = q .kind; bound = bound }
+
+-- the rows of a query by windows
+unfoldable pub windowRows : RuledQuery → List ℕ → List (Span ℕ)
+windowRows q log = spanRows (q .kind) (records log) (windows q)
+
+-- 10 of a rule that is a bound, 20 of windows: are there at most 64 rows?
+unfoldable pub rowsQuestion : RuledQuery → List ℕ → Question
+rowsQuestion q log =
+    elim (boundIn (q .rule)) [
+      | none ↦ ask 20 0 (leb (length (windowRows q log)) mostRows)
+      | some bound ↦ ask 10 0 (enoughRows (withBound q bound) log)
+    ]
+
+-- those that a query by a rule and a log are asked ahead of 10 or 20, and all
+unfoldable pub ruledOrder : RuledQuery → List ℕ → List Question
+ruledOrder q log = ask 2 0 (kindKnown (q .kind)) ∷ ruleQuestion q ∷ logQuestions log
+
+unfoldable pub ruledQuestions : RuledQuery → List ℕ → ℕ → List Question
+ruledQuestions q log room = askRoom slotLength room ∷ (ruledOrder q log ++ (rowsQuestion q log ∷ []))
+
 -- the places that a list of segments needs
 unfoldable pub mostSegments : ℕ
 mostSegments = 255
@@ -129,18 +182,25 @@ unfoldable pub zeros : List ℕ → ℕ → ℕ → Bool
 zeros bytes i zero = true
 zeros bytes i (suc count) = eqb (getD bytes i 0) 0 && zeros bytes (suc i) count
 
--- 17
+-- 17: the bytes behind the rows are zero, and by windows there is no error
 unfoldable pub tailZero : List ℕ → Bool
 tailZero slot = zeros slot (rowPlace (slotCount slot)) (slotLength - rowPlace (slotCount slot))
+
+unfoldable pub errorKnown : List ℕ → Bool
+errorKnown slot = cond (eqb (slotMark slot) byWindows) (eqb (slotError slot) 0) true
+
+-- 11: the header's mark is that of rows by a bound or of rows by windows
+unfoldable pub headerMarked : List ℕ → Bool
+headerMarked slot = marked slot 0 0x50 byBound || marked slot 0 0x50 byWindows
 
 -- 1 and 11 to 17
 unfoldable pub slotQuestions : List ℕ → List Question
 slotQuestions slot =
     askRoom slotLength (length slot)
-    ∷ ask 11 0 (marked slot 0 0x50 0x48)
+    ∷ ask 11 0 (headerMarked slot)
     ∷ ask 12 0 (kindKnown (slotKind slot))
     ∷ ask 13 0 (leb (slotCount slot) mostRows)
-    ∷ (each (rowQuestions slot) 0 (slotCount slot) ++ (ask 17 0 (tailZero slot) ∷ []))
+    ∷ (each (rowQuestions slot) 0 (slotCount slot) ++ (ask 17 0 (tailZero slot && errorKnown slot) ∷ []))
 
 -- the slot's, then 7
 unfoldable pub lookupQuestions : List ℕ → ℕ → List Question

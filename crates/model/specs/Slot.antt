@@ -18,18 +18,28 @@ unfoldable pub rowsBytes : List (Span ℕ) → List ℕ
 rowsBytes [] = []
 rowsBytes (r ∷ rs) = rowBytes r ++ rowsBytes rs
 
--- the header is 12 bytes: the mark 50 48, kind, row count and error; the rows follow
-unfoldable pub usedBytes : ℕ → ℕ → List (Span ℕ) → List ℕ
-usedBytes kind error rows = 0x50 ∷ 0x48 ∷ kind ∷ length rows ∷ (bytesOf 8 error ++ rowsBytes rows)
+-- the second byte of a header's mark tells how the rows were made: 48 by a bound, 53 by windows
+abbrev pub byBound : ℕ
+byBound = 0x48
+
+abbrev pub byWindows : ℕ
+byWindows = 0x53
+
+-- the header is 12 bytes: the mark 50 48 or 50 53, kind, row count and error; the rows follow
+unfoldable pub usedBytes : ℕ → ℕ → ℕ → List (Span ℕ) → List ℕ
+usedBytes mark kind error rows = 0x50 ∷ mark ∷ kind ∷ length rows ∷ (bytesOf 8 error ++ rowsBytes rows)
 
 -- a whole slot: header, rows, then zeros
-unfoldable pub slotBytes : ℕ → ℕ → List (Span ℕ) → List ℕ
-slotBytes kind error rows =
-    usedBytes kind error rows ++ replicate (slotLength - length (usedBytes kind error rows)) 0
+unfoldable pub slotBytes : ℕ → ℕ → ℕ → List (Span ℕ) → List ℕ
+slotBytes mark kind error rows =
+    usedBytes mark kind error rows ++ replicate (slotLength - length (usedBytes mark kind error rows)) 0
 
 -- the place of a slot's row i
 unfoldable pub rowPlace : ℕ → ℕ
 rowPlace i = 12 + 11 * i
+
+unfoldable pub slotMark : List ℕ → ℕ
+slotMark slot = getD slot 1 0
 
 unfoldable pub slotKind : List ℕ → ℕ
 slotKind slot = getD slot 2 0

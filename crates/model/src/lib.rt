@@ -34,6 +34,14 @@ pub const MOST_VALUE: u32 = 128_000;
 // The bytes of a slot.
 pub const SLOT_LENGTH: usize = 768;
 
+// The second byte of a slot's header, which tells how its rows were made: by a bound, or by windows.
+pub const BY_BOUND: u8 = 0x48;
+
+pub const BY_WINDOWS: u8 = 0x53;
+
+// The most scenes of a query.
+pub const MOST_SCENES: usize = 16;
+
 // A log record: the load of a group over the frames first to last, both included, in thousandths of a frame's time.
 pub struct Record {
     pub group: u8,
@@ -84,9 +92,27 @@ pub enum Bound {
     Share(u16),
 }
 
+// A query by a bound.
 pub struct Query {
     pub kind: u8,
     pub bound: Bound,
+}
+
+// What an answer's rows are made by: a bound, as above, or windows, which are every `length` frames from frame `start` on, or so
+// many scenes.
+pub enum Rule {
+    Rows(u16),
+    Share(u16),
+    Every { length: u16, start: u16 },
+    Scenes(usize),
+}
+
+// A query by any rule. The first and last frames of its scenes stand beside the rule, and are read for scenes alone.
+pub struct RuledQuery {
+    pub kind: u8,
+    pub rule: Rule,
+    pub firsts: [u16; MOST_SCENES],
+    pub lasts: [u16; MOST_SCENES],
 }
 
 // The number of the first question that was answered 'no', with the index of the record or row (0 where there is none).
@@ -123,9 +149,14 @@ pub enum QueryAnswer {
     Refused(Refusal),
 }
 
-// The reader's answer: what the header of a slot says.
+// The reader's answer: what the header of a slot says, the second byte of its mark first.
 pub enum ReadAnswer {
-    Slot { kind: u8, error: u64, rows: usize },
+    Slot {
+        mark: u8,
+        kind: u8,
+        error: u64,
+        rows: usize,
+    },
     Refused(Refusal),
 }
 

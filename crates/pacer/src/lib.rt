@@ -9,19 +9,22 @@ use model::ReadAnswer;
 use model::Reading;
 use model::Record;
 use model::RecordAnswer;
+use model::RuledQuery;
 use model::SLOT_LENGTH;
 use model::Walked;
 use preparing::is_written;
 use preparing::prepare;
 use preparing::refused;
+use rules::bounded;
 ghost use mathlib.Core.Path.{_≡_};
 ghost use lib.ListN.{length};
 ghost use Rattle.model.specs.Questions.{outcome, accepted};
 ghost use Rattle.model.specs.Calls.{recordSpan, recordCase, writeOutcome, writtenBuffer};
 ghost use Rattle.model.specs.Calls.{Counts, queryCase, queryOutcome, querySlot, letterQuestions, letterOutcome, letterSlot};
+ghost use Rattle.model.specs.Calls.{ruledOutcome, ruledSlot};
 ghost use Rattle.model.specs.Calls.{readCase, readOutcome, readRows, stepCase, stepOutcome, stepNext, lookupCase, lookupOutcome};
 ghost use Rattle.model.specs.Arrays.{rowArray};
-ghost use Rattle.model.specs.Demands.{QueryPromise, LetterPromise};
+ghost use Rattle.model.specs.Demands.{QueryPromise, RuledPromise, LetterPromise};
 ghost use Rattle.pacer.specs.Promises.{BestReading, noCounts};
 
 // A query's answer, and what the reader made of the slot after it.
@@ -38,11 +41,12 @@ pub fn write_record(record: Record, buffer: &mut [u8]) -> RecordAnswer
     log::write_record(record, buffer)
 }
 
-// Answers a query about a log: writes the best rows into the slot, or tells which question refused it and writes nothing.
-pub fn query(query: Query, log: &[u8], slot: &mut [u8]) -> QueryAnswer
-    ensures says { λ r. ⌜ queryCase r ≡ queryOutcome query (now (log .entry)) (length (now (slot .entry))) ⌝ }
-    ensures holds { λ _. ⌜ now (slot .exit) ≡ querySlot query (now (log .entry)) (now (slot .entry)) ⌝ }
-    ensures promise { λ r. ⌜ QueryPromise query (now (log .entry)) (now (slot .entry)) (queryCase r) (now (slot .exit)) ⌝ }
+// Answers a query about a log: writes the best rows, or those of its windows, into the slot, or tells which question refused it and
+// writes nothing.
+pub fn query(query: RuledQuery, log: &[u8], slot: &mut [u8]) -> QueryAnswer
+    ensures says { λ r. ⌜ queryCase r ≡ ruledOutcome query (now (log .entry)) (length (now (slot .entry))) ⌝ }
+    ensures holds { λ _. ⌜ now (slot .exit) ≡ ruledSlot query (now (log .entry)) (now (slot .entry)) ⌝ }
+    ensures promise { λ r. ⌜ RuledPromise query (now (log .entry)) (now (slot .entry)) (queryCase r) (now (slot .exit)) ⌝ }
 {
     let prepared = prepare(query, log, slot.len());
     let answer = prepared.answer;
@@ -54,6 +58,15 @@ pub fn query(query: Query, log: &[u8], slot: &mut [u8]) -> QueryAnswer
     answer
 }
 
+// Answers a query by a bound.
+pub fn query_by_bound(query: Query, log: &[u8], slot: &mut [u8]) -> QueryAnswer
+    ensures says { λ r. ⌜ queryCase r ≡ queryOutcome query (now (log .entry)) (length (now (slot .entry))) ⌝ }
+    ensures holds { λ _. ⌜ now (slot .exit) ≡ querySlot query (now (log .entry)) (now (slot .entry)) ⌝ }
+    ensures promise { λ r. ⌜ QueryPromise query (now (log .entry)) (now (slot .entry)) (queryCase r) (now (slot .exit)) ⌝ }
+{
+    crate::query(bounded(query), log, slot)
+}
+
 // Answers a query whose bound is a letter and a number: 52 and a row limit, or 45 and a share.
 pub fn query_by_letter(kind: u8, letter: u8, bound: u16, log: &[u8], slot: &mut [u8]) -> QueryAnswer
     ensures says { λ r. ⌜ queryCase r ≡ letterOutcome kind letter bound (now (log .entry)) (length (now (slot .entry))) ⌝ }
@@ -61,7 +74,7 @@ pub fn query_by_letter(kind: u8, letter: u8, bound: u16, log: &[u8], slot: &mut 
     ensures promise { λ r. ⌜ LetterPromise kind letter bound (now (log .entry)) (now (slot .entry)) (queryCase r) (now (slot .exit)) ⌝ }
 {
     if letter == 0x52 {
-        return query(
+        return query_by_bound(
             Query {
                 kind,
                 bound: Bound::Rows(bound),
@@ -71,7 +84,7 @@ pub fn query_by_letter(kind: u8, letter: u8, bound: u16, log: &[u8], slot: &mut 
         );
     }
     if letter == 0x45 {
-        return query(
+        return query_by_bound(
             Query {
                 kind,
                 bound: Bound::Share(bound),
@@ -105,19 +118,19 @@ pub fn query_and_read(query: Query, log: &[u8], slot: &mut [u8]) -> Queried
     ensures promise { λ r. ⌜ QueryPromise query (now (log .entry)) (now (slot .entry)) (queryCase (r .answer)) (now (slot .exit)) ⌝ }
     ensures best { λ r. ⌜ ((counts : Counts) → queryCase (r .answer) ≡ accepted counts → BestReading query (now (log .entry)) (r .reading)) ⌝ }
 {
-    let answer = crate::query(query, log, slot);
+    let answer = query_by_bound(query, log, slot);
     let reading = read(slot);
     Queried { answer, reading }
 }
 
-// Reads a slot's header: kind, error and row count.
+// Reads a slot's header: the mark's second byte, kind, error and row count.
 pub fn read_header(slot: &[u8]) -> ReadAnswer
     ensures { λ r. ⌜ readCase r ≡ readOutcome (now (slot .entry)) ⌝ }
 {
     reader::header(slot)
 }
 
-// Reads a slot: kind, error, row count and rows.
+// Reads a slot: what its header says, and its rows.
 pub fn read(slot: &[u8]) -> Reading
     ensures { λ r. ⌜ (readCase (r .answer) ≡ readOutcome (now (slot .entry))) × (r .rows ≡ rowArray (readRows (now (slot .entry)))) ⌝ }
 {

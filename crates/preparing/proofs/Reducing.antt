@@ -11,6 +11,7 @@ use Rattle.model.specs.Spans.{Span}
 use Rattle.model.specs.Blocks.{segmentAt, block, rowOf}
 use Rattle.model.specs.Reductions.{IsReduction}
 use Rattle.model.specs.Room.{Measured}
+use Rattle.model.specs.Slot.{byBound}
 use Rattle.model.specs.Split.{Reduced, least, cutsOf, rowsOf, chosen, errorOf, gapBelow, runs, leastOf, countFor, reducedTo, reduced}
 use Rattle.model.specs.declared.Bound.{Bound}
 use Rattle.theory.proofs.Tests.{true≢false}
@@ -131,7 +132,7 @@ module _ (kind : ℕ) (h : ℕ → Span ℕ) (n : ℕ) (ok : Measured (listFrom 
 
 -- the rows between the cuts, laid out, are the definition's
 pub laid-rows : (kind : ℕ) (h : ℕ → Span ℕ) (n : ℕ) {bound : Bound} {r : Reduction} {cuts : List ℕ} → Answers kind h n bound r cuts → (rows : List Row)
-    → rows ≡ rowArray (rowsBetween kind h cuts (r .count) n) → written kind r (rowsIn rows (r .count)) ≡ laidOut kind (reduced kind bound (listFrom 0 n h))
+    → rows ≡ rowArray (rowsBetween kind h cuts (r .count) n) → written byBound kind r (rowsIn rows (r .count)) ≡ laidOut byBound 10 kind (reduced kind bound (listFrom 0 n h))
 unfolding written laidOut
 laid-rows kind h n a rows made =
     rw (made, a .rows, a .count, rows-held (a .d .rows), a .is, a .error, a .weighed)

@@ -1,26 +1,31 @@
-// A query's answer and slot, worked out before anything lent is touched: its questions, the log's segments, their reduction, and the
-// reduction's rows in the bytes of a slot.
+// A query's answer and slot, worked out before anything lent is touched: its questions, and the bytes of a slot with the rows of a
+// reduction of the log's segments, or with rows by windows.
 use common::no;
 use common::no_slot;
 use cuts::Reduction;
 use model::Asked;
+use model::BY_BOUND;
+use model::BY_WINDOWS;
 use model::Bound;
 use model::MOST_KIND;
-use model::MOST_SHARE;
+use model::MOST_ROWS;
 use model::Query;
 use model::QueryAnswer;
 use model::Refusal;
 use model::Row;
+use model::Rule;
+use model::RuledQuery;
 use model::SLOT_LENGTH;
 ghost use mathlib.Core.Path.{_≡_};
 ghost use mathlib.Core.List.{_++_};
 ghost use Prim.Native.Nat.{_≤_};
 ghost use Rattle.model.specs.Split.{reduced};
-ghost use Rattle.model.specs.Questions.{outcome, boundKnown, logQuestions, orderQuestions};
-ghost use Rattle.model.specs.Calls.{askedCase, queryCase, logSegments, queryOutcome};
+ghost use Rattle.model.specs.Slot.{byBound, byWindows};
+ghost use Rattle.model.specs.Questions.{outcome, logQuestions, orderQuestions, windowRows, ruledOrder};
+ghost use Rattle.model.specs.Calls.{askedCase, queryCase, logSegments, ruledOutcome};
 ghost use Rattle.model.specs.Arrays.{rowsIn};
 ghost use Rattle.model.specs.Demands.{AllPass};
-ghost use Rattle.preparing.specs.Prepared.{boundQuestions, writes, written, laidOut, preparedSlot};
+ghost use Rattle.preparing.specs.Prepared.{earlyQuestions, writes, written, laidOut, listed, answered, preparedSlot};
 
 // The answer to a query, and the bytes of its slot: zeros in a refusal.
 pub struct Prepared {
@@ -49,19 +54,9 @@ pub fn is_written(answer: QueryAnswer) -> bool
     }
 }
 
-// Question 3.
-fn is_known(bound: Bound) -> bool
-    ensures { λ r. ⌜ r ≡ boundKnown bound ⌝ }
-{
-    match bound {
-        Bound::Rows(c) => c <= 64,
-        Bound::Share(p) => p <= MOST_SHARE,
-    }
-}
-
-// Questions 1 to 3.
-fn ask_bound(query: Query, room: usize) -> Asked
-    ensures { λ r. ⌜ askedCase r ≡ outcome (boundQuestions query room) tt ⌝ }
+// Questions 1, 2 and that of the rule: 3, 18 or 19.
+fn ask_query(query: RuledQuery, room: usize) -> Asked
+    ensures { λ r. ⌜ askedCase r ≡ outcome (earlyQuestions query room) tt ⌝ }
 {
     if room < SLOT_LENGTH {
         return no(1, 0);
@@ -69,28 +64,24 @@ fn ask_bound(query: Query, room: usize) -> Asked
     if query.kind > MOST_KIND {
         return no(2, 0);
     }
-    let bound = query.bound;
-    if !is_known(bound) {
-        return no(3, 0);
-    }
-    Asked::Passed
+    rules::ask(query)
 }
 
-// Questions 1 to 9.
-fn ask(query: Query, log: &[u8], room: usize) -> Asked
-    ensures { λ r. ⌜ askedCase r ≡ outcome (boundQuestions query room ++ logQuestions (now (log .entry))) tt ⌝ }
+// These, and then the log's.
+fn ask(query: RuledQuery, log: &[u8], room: usize) -> Asked
+    ensures { λ r. ⌜ askedCase r ≡ outcome (earlyQuestions query room ++ logQuestions (now (log .entry))) tt ⌝ }
 {
-    let asked = ask_bound(query, room);
+    let asked = ask_query(query, room);
     match asked {
         Asked::Passed => log::ask(log),
         Asked::Refused(refusal) => Asked::Refused(refusal),
     }
 }
 
-// The answer and slot of a reduction with these rows.
-fn lay_out(kind: u8, reduction: Reduction, rows: [Row; 64]) -> Prepared
+// The answer and slot of a reduction with these rows, under the header of this mark.
+fn lay_out(mark: u8, kind: u8, reduction: Reduction, rows: [Row; 64]) -> Prepared
     requires { ⌜ reduction .count ≤ 64 ⌝ }
-    ensures { λ r. ⌜ r ≡ written kind reduction (rowsIn rows (reduction .count)) ⌝ }
+    ensures { λ r. ⌜ r ≡ written mark kind reduction (rowsIn rows (reduction .count)) ⌝ }
 {
     Prepared {
         answer: QueryAnswer::Written {
@@ -98,14 +89,14 @@ fn lay_out(kind: u8, reduction: Reduction, rows: [Row; 64]) -> Prepared
             error: reduction.error,
             weighed: reduction.weighed,
         },
-        bytes: layout::layout(kind, reduction.error, rows, reduction.count),
+        bytes: layout::layout(mark, kind, reduction.error, rows, reduction.count),
     }
 }
 
 // The reduction of a log's segments that a query asks for, laid out, and question 10 where there is none.
 fn reduce(query: Query, log: &[u8]) -> Prepared
     requires { ⌜ AllPass (orderQuestions query (now log)) ⌝ }
-    ensures { λ r. ⌜ r ≡ laidOut (query .kind) (reduced (query .kind) (query .bound) (logSegments (query .kind) (now (log .entry)))) ⌝ }
+    ensures { λ r. ⌜ r ≡ laidOut byBound 10 (query .kind) (reduced (query .kind) (query .bound) (logSegments (query .kind) (now (log .entry)))) ⌝ }
 {
     let records = log::decode(log);
     let mut groups = [0u8; 255];
@@ -145,17 +136,77 @@ fn reduce(query: Query, log: &[u8]) -> Prepared
     }
     let count = reduction.count;
     let rows = rows::between(&cuts, &groups, &firsts, &lasts, &values, count, n, kind);
-    lay_out(kind, reduction, rows)
+    lay_out(BY_BOUND, kind, reduction, rows)
+}
+
+// The rows of a log's records by a query's windows, laid out, and question 20 where they are more than 64.
+fn list(query: RuledQuery, log: &[u8]) -> Prepared
+    requires { ⌜ AllPass (ruledOrder query (now log)) ⌝ }
+    ensures { λ r. ⌜ r ≡ laidOut byWindows 20 (query .kind) (listed (windowRows query (now (log .entry)))) ⌝ }
+{
+    let records = log::decode(log);
+    let listing = windows::rows(
+        &records.groups,
+        &records.firsts,
+        &records.lasts,
+        &records.loads,
+        records.count,
+        query,
+    );
+    if listing.count > MOST_ROWS {
+        return Prepared {
+            answer: refused(20, 0),
+            bytes: no_slot(),
+        };
+    }
+    let rows = listing.rows;
+    let unreduced = Reduction {
+        found: true,
+        count: listing.count,
+        error: 0,
+        weighed: 0,
+    };
+    lay_out(BY_WINDOWS, query.kind, unreduced, rows)
+}
+
+// What a query in order is answered, by its rule.
+fn answer(query: RuledQuery, log: &[u8]) -> Prepared
+    requires { ⌜ AllPass (ruledOrder query (now log)) ⌝ }
+    ensures { λ r. ⌜ r ≡ answered query (now (log .entry)) ⌝ }
+{
+    let kind = query.kind;
+    let rule = query.rule;
+    match rule {
+        Rule::Rows(c) => reduce(
+            Query {
+                kind,
+                bound: Bound::Rows(c),
+            },
+            log,
+        ),
+        Rule::Share(p) => reduce(
+            Query {
+                kind,
+                bound: Bound::Share(p),
+            },
+            log,
+        ),
+        Rule::Every {
+            length: _,
+            start: _,
+        } => list(query, log),
+        Rule::Scenes(_) => list(query, log),
+    }
 }
 
 // Asks a query's questions and works out its slot, where as many bytes are lent.
-pub fn prepare(query: Query, log: &[u8], room: usize) -> Prepared
-    ensures { λ r. ⌜ queryCase (r .answer) ≡ queryOutcome query (now (log .entry)) room ⌝ }
+pub fn prepare(query: RuledQuery, log: &[u8], room: usize) -> Prepared
+    ensures { λ r. ⌜ queryCase (r .answer) ≡ ruledOutcome query (now (log .entry)) room ⌝ }
     ensures { λ r. ⌜ r .bytes ≡ preparedSlot query (now (log .entry)) room ⌝ }
 {
     let asked = ask(query, log, room);
     match asked {
-        Asked::Passed => reduce(query, log),
+        Asked::Passed => answer(query, log),
         Asked::Refused(refusal) => Prepared {
             answer: QueryAnswer::Refused(refusal),
             bytes: no_slot(),

@@ -27,7 +27,7 @@ ghost use Rattle.model.specs.Calls.{rowSpan, readCase, readOutcome, readRows};
 ghost use Rattle.model.specs.Calls.{stepCase, stepOutcome, stepNext, lookupCase, lookupOutcome};
 ghost use Rattle.model.specs.Arrays.{rowArray};
 
-// Reads a slot's header: kind, error and row count.
+// Reads a slot's header: the mark's second byte, kind, error and row count.
 pub fn header(slot: &[u8]) -> ReadAnswer
     ensures { λ r. ⌜ readCase r ≡ readOutcome (now (slot .entry)) ⌝ }
 {
@@ -35,6 +35,7 @@ pub fn header(slot: &[u8]) -> ReadAnswer
     match asked {
         Asked::Refused(r) => ReadAnswer::Refused(r),
         Asked::Passed => ReadAnswer::Slot {
+            mark: slot[1],
             kind: slot[2],
             error: eight(slot, 4),
             rows: wide(slot[3]),
@@ -42,7 +43,7 @@ pub fn header(slot: &[u8]) -> ReadAnswer
     }
 }
 
-// Reads a slot: kind, error, row count and rows.
+// Reads a slot: what its header says, and its rows.
 pub fn read(slot: &[u8]) -> Reading
     ensures { λ r. ⌜ (readCase (r .answer) ≡ readOutcome (now (slot .entry))) × (r .rows ≡ rowArray (readRows (now (slot .entry)))) ⌝ }
 {
@@ -60,6 +61,7 @@ pub fn read(slot: &[u8]) -> Reading
             let rows = read_rows(slot, count);
             Reading {
                 answer: ReadAnswer::Slot {
+                    mark: slot[1],
                     kind: slot[2],
                     error: eight(slot, 4),
                     rows: count,

@@ -44,7 +44,7 @@ frames-own kind rs g in-groups f (suc count) within =
     rw (
       lt-ltb g groupCount in-groups,
       lt-ltb f frameCount (omega arith),
-      meeting-own rs g f,
+      meeting-own rs g f f,
       frames-own kind rs g in-groups (suc f) count (omega arith),
     )
 

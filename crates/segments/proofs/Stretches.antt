@@ -104,19 +104,19 @@ frames-one val g v f (suc count) rest one =
 
 module _ (kind : ℕ) (own : List Own) (g a : ℕ) (in-frames : a ≤ 65535) where
   stretch-value : (f : ℕ) → a ≤ f → f < a + (suc (stopAt a own) - a)
-      → ownValue kind own g f ≡ aggregated kind (loadsAt a own)
+      → ownValue kind own g f ≡ aggregated kind (loadsAt a a own)
   unfolding ownValue
   stretch-value f le lt =
       let near : f ≤ stopAt a own = omega (arith, stop-from a own in-frames) in
       ap (aggregated kind) (loads-same a f le own near)
 
   -- no record holds its frames
-  pub stretch-none : length (loadsAt a own) ≡ 0 → framesFrom (ownValue kind own) g a (suc (stopAt a own) - a) [] ≡ []
+  pub stretch-none : length (loadsAt a a own) ≡ 0 → framesFrom (ownValue kind own) g a (suc (stopAt a own) - a) [] ≡ []
   stretch-none empty =
-      frames-none (ownValue kind own) g a (suc (stopAt a own) - a) (λ f le lt. stretch-value f le lt ∙ no-value kind (loadsAt a own) empty)
+      frames-none (ownValue kind own) g a (suc (stopAt a own) - a) (λ f le lt. stretch-value f le lt ∙ no-value kind (loadsAt a a own) empty)
 
   -- its frames have the value of the first
-  pub stretch-one : (l : List (Span ℕ)) (v : ℕ) → aggregated kind (loadsAt a own) ≡ some v
+  pub stretch-one : (l : List (Span ℕ)) (v : ℕ) → aggregated kind (loadsAt a a own) ≡ some v
       → joined (l ++ framesFrom (ownValue kind own) g a (suc (stopAt a own) - a) [])
       ≡ joined (l ++ (record { group = g; first = a; last = stopAt a own; value = v } ∷ []))
   unfolding joined fuse

@@ -83,7 +83,7 @@ fn add_stretch<'a>(
     count: usize,
 ) -> usize
     requires { ⌜ own ≤ 128 ⌝ }
-    requires { ⌜ Survey a (ownsIn (now «own_firsts») (now «own_lasts») (now «own_loads») own) here ⌝ }
+    requires { ⌜ Survey a a (ownsIn (now «own_firsts») (now «own_lasts») (now «own_loads») own) here ⌝ }
     requires { ⌜ Made (arraysOf (now groups) (now firsts) (now lasts) (now values) count) ⌝ }
     requires { ⌜ length (behind (arraysOf (now groups) (now firsts) (now lasts) (now values) count) (framesFrom (ownValue kind (ownsIn (now «own_firsts») (now «own_lasts») (now «own_loads») own)) group a (suc (here .stop) - a) [])) ≤ 255 ⌝ }
     ensures { λ r. ⌜ arraysOf (now (groups .exit)) (now (firsts .exit)) (now (lasts .exit)) (now (values .exit)) r ≡ segmentArrays (behind (arraysOf (now (groups .entry)) (now (firsts .entry)) (now (lasts .entry)) (now (values .entry)) count) (framesFrom (ownValue kind (ownsIn (now («own_firsts» .entry)) (now («own_lasts» .entry)) (now («own_loads» .entry)) own)) group a (suc (here .stop) - a) [])) ⌝ }
@@ -95,7 +95,7 @@ fn add_stretch<'a>(
         group,
         first: a,
         last: here.stop,
-        value: tally::value_at(kind, here, own_firsts, own_lasts, own_loads, own, a),
+        value: tally::value_at(kind, here, own_firsts, own_lasts, own_loads, own, a, a),
     };
     extend(groups, firsts, lasts, values, count, segment)
 }
@@ -125,7 +125,7 @@ fn find_group<'a>(
     let mut made = count;
     let mut a: u16 = 0;
     loop {
-        let here = tally::survey(own_firsts, own_lasts, own_loads, own, a);
+        let here = tally::survey(own_firsts, own_lasts, own_loads, own, a, a);
         made = add_stretch(
             kind,
             here,

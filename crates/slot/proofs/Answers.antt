@@ -1,13 +1,14 @@
 -- A slot's questions asked in parts: 1 and 11 to 13, then the rows', then 17; and what a slot has that passes them.
 -- Assumes nothing.
 use Prim.Native.Nat.{ℕ, _≤_}
+use mathlib.Core.Bool.{_&&_}
 use mathlib.Core.List.{List, [], _∷_, _++_, append-nil}
 use mathlib.Core.Path.{_≡_, _∙_}
 use borrow.Author.Tests.{leb-true}
 use lib.ListN.{length, take}
 use Rattle.model.specs.Split.{mostRows}
 use Rattle.model.specs.Slot.{slotLength, slotCount}
-use Rattle.model.specs.Questions.{Question, refused, accepted, ask, askRoom, each, rowQuestions, tailZero, slotQuestions}
+use Rattle.model.specs.Questions.{Question, refused, accepted, ask, askRoom, each, rowQuestions, tailZero, errorKnown, slotQuestions}
 use Rattle.theory.proofs.Refusals.{all-head, all-tail, outcome-accepted, refused-first, passed-first}
 use Rattle.theory.proofs.Asking.{answer}
 
@@ -21,7 +22,7 @@ module _ (slot : List ℕ) where
 
   -- question 17, alone
   abbrev tail : List Question
-  tail = ask 17 0 (tailZero slot) ∷ []
+  tail = ask 17 0 (tailZero slot && errorKnown slot) ∷ []
 
   -- a slot that passes 1 and 11 to 13 is long enough and has at most 64 rows
   sized : (qs : List Question) → answer (header ++ qs) ≡ accepted tt → (768 ≤ length slot) × (slotCount slot ≤ 64)

@@ -1,10 +1,13 @@
 // A slot's rows and its questions, 1 and 11 to 17. A slot that is handed in may hold any bytes, of any length.
+use common::eight;
 use common::four;
 use common::no;
 use common::place;
 use common::two;
 use common::wide;
 use model::Asked;
+use model::BY_BOUND;
+use model::BY_WINDOWS;
 use model::MOST_GROUP;
 use model::MOST_KIND;
 use model::MOST_ROWS;
@@ -15,7 +18,7 @@ ghost use mathlib.Core.Path.{_≡_};
 ghost use Prim.Native.Nat.{_+_, _≤_, _<_};
 ghost use lib.ListN.{length, take};
 ghost use Rattle.model.specs.Slot.{slotRow};
-ghost use Rattle.model.specs.Questions.{outcome, each, marked, rowKnown, rowQuestions, slotQuestions};
+ghost use Rattle.model.specs.Questions.{outcome, each, marked, rowKnown, rowQuestions, errorKnown, headerMarked, slotQuestions};
 ghost use Rattle.model.specs.Calls.{rowSpan, rowOfSpan, askedCase};
 ghost use Rattle.slot.specs.Places.{placeOf, leastPlace};
 
@@ -41,6 +44,14 @@ fn marked(bytes: &[u8], at: usize, a: u8, b: u8) -> bool
     two(bytes, at) == (a as u16) + 256 * (b as u16)
 }
 
+// Question 11's: whether the header's mark is that of rows by a bound or of rows by windows.
+fn header_marked(slot: &[u8]) -> bool
+    requires { ⌜ 768 ≤ length (now slot) ⌝ }
+    ensures { λ r. ⌜ r ≡ headerMarked (now (slot .entry)) ⌝ }
+{
+    marked(slot, 0, 0x50, BY_BOUND) | marked(slot, 0, 0x50, BY_WINDOWS)
+}
+
 // Questions 1 and 11 to 13: room, header mark, kind and row count.
 fn ask_header(slot: &[u8]) -> Asked
     ensures { λ r. ⌜ askedCase r ≡ outcome (take 4 (slotQuestions (now (slot .entry)))) tt ⌝ }
@@ -48,7 +59,7 @@ fn ask_header(slot: &[u8]) -> Asked
     if slot.len() < SLOT_LENGTH {
         return no(1, 0);
     }
-    if !marked(slot, 0, 0x50, 0x48) {
+    if !header_marked(slot) {
         return no(11, 0);
     }
     if slot[2] > MOST_KIND {
@@ -113,6 +124,14 @@ fn ask_rows(slot: &[u8], count: usize) -> Asked
     Asked::Passed
 }
 
+// Question 17's of the error, which is 0 where the rows are by windows.
+fn error_known(slot: &[u8]) -> bool
+    requires { ⌜ 768 ≤ length (now slot) ⌝ }
+    ensures { λ r. ⌜ r ≡ errorKnown (now (slot .entry)) ⌝ }
+{
+    (slot[1] != BY_WINDOWS) | (eight(slot, 4) == 0)
+}
+
 // Asks a slot's questions: 1 and 11 to 17.
 pub fn ask(slot: &[u8]) -> Asked
     ensures { λ r. ⌜ askedCase r ≡ outcome (slotQuestions (now (slot .entry))) tt ⌝ }
@@ -126,7 +145,7 @@ pub fn ask(slot: &[u8]) -> Asked
             match rows {
                 Asked::Refused(r) => Asked::Refused(r),
                 Asked::Passed => {
-                    if tail::is_zero(slot, place(count), SLOT_LENGTH) {
+                    if tail::is_zero(slot, place(count), SLOT_LENGTH) & error_known(slot) {
                         Asked::Passed
                     } else {
                         no(17, 0)

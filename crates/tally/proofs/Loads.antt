@@ -1,5 +1,5 @@
--- The records of a group, and the loads of those that hold a frame: what one record more changes, and what the loads aggregate
--- to. Assumes nothing.
+-- The records of a group, and the loads of those that meet a stretch of frames: what one record more changes, and what the loads
+-- aggregate to. Assumes nothing.
 use Prim.Native.Nat.{ℕ, zero, suc, _+_, _-_, _*_, _/_, _%_, _≤_, _<_, min, max}
 use mathlib.Core.Bool.{Bool, true, false, cond}
 use mathlib.Core.List.{List, [], _∷_, _++_, foldr, append-assoc}
@@ -66,35 +66,35 @@ select-more g h count i lt f l w n so-far f′ l′ w′ n′ r b sized kept cho
           (λ e. rw e (rw (listFrom-left h i count lt, e) at (so-far .1)))),
     )
 
--- the loads at a frame of a group are those of the group's records
-pub meeting-own : (rs : List (Span ℕ)) (g f : ℕ) → meeting rs g f f ≡ loadsAt f (onlyOf g rs)
+-- the loads that a group has at a stretch of frames are those of the group's records
+pub meeting-own : (rs : List (Span ℕ)) (g a b : ℕ) → meeting rs g a b ≡ loadsAt a b (onlyOf g rs)
 unfolding meeting meets onlyOf loadsAt
-meeting-own [] g f = refl
-meeting-own (r ∷ rs) g f =
-    cases (eqb (r .group) g) (λ e. rw (e, meeting-own rs g f)) (λ e. rw (e, meeting-own rs g f))
+meeting-own [] g a b = refl
+meeting-own (r ∷ rs) g a b =
+    cases (eqb (r .group) g) (λ e. rw (e, meeting-own rs g a b)) (λ e. rw (e, meeting-own rs g a b))
 
 -- ---- one record before the others
 
-module _ (a : ℕ) (h : ℕ → Own) (i count : ℕ) (lt : i < count) where
-  loads-left : loadsAt a (listFrom i (count - i) h)
-      ≡ cond (held a (h i)) (h i .load ∷ loadsAt a (listFrom (suc i) (count - suc i) h))
-      (loadsAt a (listFrom (suc i) (count - suc i) h))
+module _ (a b : ℕ) (h : ℕ → Own) (i count : ℕ) (lt : i < count) where
+  loads-left : loadsAt a b (listFrom i (count - i) h)
+      ≡ cond (held a b (h i)) (h i .load ∷ loadsAt a b (listFrom (suc i) (count - suc i) h))
+      (loadsAt a b (listFrom (suc i) (count - suc i) h))
   unfolding loadsAt
-  loads-left = ap (loadsAt a) (listFrom-left h i count lt)
+  loads-left = ap (loadsAt a b) (listFrom-left h i count lt)
 
   -- one load more for the count, and for a fold whose start changes nothing
-  count-left : length (loadsAt a (listFrom i (count - i) h))
-      ≡ boolByte (held a (h i)) + length (loadsAt a (listFrom (suc i) (count - suc i) h))
+  count-left : length (loadsAt a b (listFrom i (count - i) h))
+      ≡ boolByte (held a b (h i)) + length (loadsAt a b (listFrom (suc i) (count - suc i) h))
   count-left =
       ap (λ (l : List ℕ). length l) loads-left
-      ∙ cases (held a (h i)) (λ e. rw e (omega arith)) (λ e. rw e (omega arith))
+      ∙ cases (held a b (h i)) (λ e. rw e (omega arith)) (λ e. rw e (omega arith))
 
   pub fold-left : (op : ℕ → ℕ → ℕ) (start : ℕ) → ((l : List ℕ) → op start (foldr op start l) ≡ foldr op start l)
-      → foldr op start (loadsAt a (listFrom i (count - i) h))
-      ≡ op (cond (held a (h i)) (h i .load) start) (foldr op start (loadsAt a (listFrom (suc i) (count - suc i) h)))
+      → foldr op start (loadsAt a b (listFrom i (count - i) h))
+      ≡ op (cond (held a b (h i)) (h i .load) start) (foldr op start (loadsAt a b (listFrom (suc i) (count - suc i) h)))
   fold-left op start unit =
       ap (foldr op start) loads-left
-      ∙ cases (held a (h i)) (λ e. rw e) (λ e. rw e (sym (unit (loadsAt a (listFrom (suc i) (count - suc i) h)))))
+      ∙ cases (held a b (h i)) (λ e. rw e) (λ e. rw e (sym (unit (loadsAt a b (listFrom (suc i) (count - suc i) h)))))
 
   stop-left : stopAt a (listFrom i (count - i) h) ≡ min (stopOf a (h i)) (stopAt a (listFrom (suc i) (count - suc i) h))
   unfolding stopAt
@@ -115,62 +115,62 @@ greatest-start l = omega arith
 
 -- the first i records have been surveyed: what is found with what the records left have is what all have; and each adds at most 1
 -- to the count and 255 to each half of the sum
-abbrev pub Surveying : ℕ → (ℕ → Own) → ℕ → ℕ → ℕ → ℕ → ℕ → ℕ → Type 0
-Surveying a h own i stop count low high =
+abbrev pub Surveying : ℕ → ℕ → (ℕ → Own) → ℕ → ℕ → ℕ → ℕ → ℕ → ℕ → Type 0
+Surveying a b h own i stop count low high =
     ((stop ≤ 65535) × (count ≤ i) × (low ≤ 255 * i) × (high ≤ 255 * i))
     × (min stop (stopAt a (listFrom i (own - i) h)) ≡ stopAt a (listFrom 0 own h))
-    × (count + length (loadsAt a (listFrom i (own - i) h)) ≡ length (loadsAt a (listFrom 0 own h)))
-    × (low + 256 * high + sum (loadsAt a (listFrom i (own - i) h)) ≡ sum (loadsAt a (listFrom 0 own h)))
+    × (count + length (loadsAt a b (listFrom i (own - i) h)) ≡ length (loadsAt a b (listFrom 0 own h)))
+    × (low + 256 * high + sum (loadsAt a b (listFrom i (own - i) h)) ≡ sum (loadsAt a b (listFrom 0 own h)))
 
 -- a count grows by 0 or 1
 pub byte-le : (b : Bool) → boolByte b ≤ 1
 byte-le true = omega arith
 byte-le false = omega arith
 
-module _ (a : ℕ) (h : ℕ → Own) (own : ℕ) where
-  pub survey-none : Surveying a h own 0 65535 0 0 0
+module _ (a b : ℕ) (h : ℕ → Own) (own : ℕ) where
+  pub survey-none : Surveying a b h own 0 65535 0 0 0
   survey-none =
       let all : own - 0 ≡ own = omega arith in
       rw all (omega arith, omega (arith, stop-le a (listFrom 0 own h)), omega arith, omega arith)
 
-  pub survey-more : (i stop count low high : ℕ) → i < own → Surveying a h own i stop count low high
-      → (r : Own) (b : Bool) (x s t : ℕ) → r ≡ h i → b ≡ held a r → x ≡ cond b (r .load) 0 → x ≤ 65535 → s ≡ stopOf a r
-      → t ≡ min stop s → Surveying a h own (i + 1) t (count + boolByte b) (low + x % 256) (high + x / 256)
+  pub survey-more : (i stop count low high : ℕ) → i < own → Surveying a b h own i stop count low high
+      → (r : Own) (met : Bool) (x s t : ℕ) → r ≡ h i → met ≡ held a b r → x ≡ cond met (r .load) 0 → x ≤ 65535 → s ≡ stopOf a r
+      → t ≡ min stop s → Surveying a b h own (i + 1) t (count + boolByte met) (low + x % 256) (high + x / 256)
   unfolding sum
-  survey-more i stop count low high lt (bounds, stops, counts, sums) r b x s t read holds load small ends next =
-      let load-of : x ≡ cond (held a (h i)) (h i .load) 0 = load ∙ rw (holds, read) in
+  survey-more i stop count low high lt (bounds, stops, counts, sums) r met x s t read holds load small ends next =
+      let load-of : x ≡ cond (held a b (h i)) (h i .load) 0 = load ∙ rw (holds, read) in
       let stop-of : s ≡ stopOf a (h i) = ends ∙ rw read in
-      let one = byte-le (held a (h i)) in
+      let one = byte-le (held a b (h i)) in
       rw (add-one i, holds, read) (
         omega arith,
-        omega (arith, stop-left a h i own lt),
-        omega (arith, count-left a h i own lt),
-        omega (arith, fold-left a h i own lt _+_ 0 sum-start),
+        omega (arith, stop-left a b h i own lt),
+        omega (arith, count-left a b h i own lt),
+        omega (arith, fold-left a b h i own lt _+_ 0 sum-start),
       )
 
-  pub survey-all : (i stop count low high : ℕ) → own ≤ i → Surveying a h own i stop count low high
-      → (stop ≡ stopAt a (listFrom 0 own h)) × (count ≡ length (loadsAt a (listFrom 0 own h)))
-      × (low + 256 * high ≡ sum (loadsAt a (listFrom 0 own h)))
+  pub survey-all : (i stop count low high : ℕ) → own ≤ i → Surveying a b h own i stop count low high
+      → (stop ≡ stopAt a (listFrom 0 own h)) × (count ≡ length (loadsAt a b (listFrom 0 own h)))
+      × (low + 256 * high ≡ sum (loadsAt a b (listFrom 0 own h)))
   unfolding listFrom loadsAt stopAt sum
   survey-all i stop count low high past found =
       let none-left : own - i ≡ 0 = omega arith in
       let (bounds, stops, counts, sums) = rw none-left at found in
       (omega arith, omega arith, omega arith)
 
--- ---- the value of a frame
+-- ---- the value of a stretch
 
 -- loads of 16 bits
 abbrev Small : List ℕ → Type 0
 Small [] = Unit {0}
 Small (x ∷ l) = (x ≤ 65535) × Small l
 
-loads-small : (a : ℕ) (h : ℕ → Own) (from count : ℕ) → ((i : ℕ) → i < from + count → h i .load ≤ 65535)
-    → Small (loadsAt a (listFrom from count h))
+loads-small : (a b : ℕ) (h : ℕ → Own) (from count : ℕ) → ((i : ℕ) → i < from + count → h i .load ≤ 65535)
+    → Small (loadsAt a b (listFrom from count h))
 unfolding loadsAt listFrom
-loads-small a h from zero small = tt
-loads-small a h from (suc count) small =
-    let rest = loads-small a h (suc from) count (λ i lt. small i (omega arith)) in
-    cases (held a (h from)) (λ e. rw e (small from (omega arith), rest)) (λ e. rw e rest)
+loads-small a b h from zero small = tt
+loads-small a b h from (suc count) small =
+    let rest = loads-small a b h (suc from) count (λ i lt. small i (omega arith)) in
+    cases (held a b (h from)) (λ e. rw e (small from (omega arith), rest)) (λ e. rw e rest)
 
 pub no-value : (kind : ℕ) (l : List ℕ) → length l ≡ 0 → aggregated kind l ≡ none
 unfolding aggregated
@@ -198,11 +198,11 @@ unfolding aggregated aggregate
 least-some [] none-held small = absurd (none-held refl)
 least-some (x ∷ l) some-held small = ap (λ (v : ℕ). some v) (least-in x l (small .0))
 
-pub least-value : (a : ℕ) (h : ℕ → Own) (count : ℕ) → (length (loadsAt a (listFrom 0 count h)) ≡ 0 → ⊥)
+pub least-value : (a b : ℕ) (h : ℕ → Own) (count : ℕ) → (length (loadsAt a b (listFrom 0 count h)) ≡ 0 → ⊥)
     → ((i : ℕ) → i < count → h i .load ≤ 65535)
-    → aggregated 2 (loadsAt a (listFrom 0 count h)) ≡ some (foldr min 65535 (loadsAt a (listFrom 0 count h)))
-least-value a h count some-held small =
-    least-some (loadsAt a (listFrom 0 count h)) some-held (loads-small a h 0 count (λ i lt. small i (omega arith)))
+    → aggregated 2 (loadsAt a b (listFrom 0 count h)) ≡ some (foldr min 65535 (loadsAt a b (listFrom 0 count h)))
+least-value a b h count some-held small =
+    least-some (loadsAt a b (listFrom 0 count h)) some-held (loads-small a b h 0 count (λ i lt. small i (omega arith)))
 
 -- the greatest, from 0 on up
 greatest-in : (x : ℕ) (l : List ℕ) → foldr max x l ≡ max x (foldr max 0 l)

@@ -12,17 +12,17 @@ use Rattle.tally.specs.declared.Own.{Own}
 
 module _ (a f : ℕ) (from : a ≤ f) where
   -- up to a record's stop it holds a frame or does not, as it does frame a
-  held-same : (r : Own) → f ≤ stopOf a r → held f r ≡ held a r
+  held-same : (r : Own) → f ≤ stopOf a r → held f f r ≡ held a a r
   unfolding stopOf
   held-same r near = cases (ltb a (r .first)) ahead begun
     where
-      ahead : ltb a (r .first) ≡ true → held f r ≡ held a r
+      ahead : ltb a (r .first) ≡ true → held f f r ≡ held a a r
       ahead e =
           let behind = ltb-true a (r .first) e in
           let before : f < r .first = omega (arith, rw e at near) in
           rw (lt-leb (r .first) f before, lt-leb (r .first) a behind)
 
-      begun : ltb a (r .first) ≡ false → held f r ≡ held a r
+      begun : ltb a (r .first) ≡ false → held f f r ≡ held a a r
       begun e =
           let first = ltb-false a (r .first) e in
           rw (le-leb (r .first) f (omega arith), le-leb (r .first) a first)
@@ -30,7 +30,7 @@ module _ (a f : ℕ) (from : a ≤ f) where
           (λ h. rw (h, lt-leb f (r .last) (omega (arith, leb-false a (r .last) h)))))
 
   -- so the records that hold a frame do not change
-  pub loads-same : (own : List Own) → f ≤ stopAt a own → loadsAt f own ≡ loadsAt a own
+  pub loads-same : (own : List Own) → f ≤ stopAt a own → loadsAt f f own ≡ loadsAt a a own
   unfolding stopAt loadsAt
   loads-same [] near = refl
   loads-same (r ∷ rs) near = rw (held-same r (omega arith), loads-same rs (omega arith))

@@ -1,5 +1,5 @@
--- The records of one group, and what they say at a frame: the last frame before their next event, the loads of those that hold
--- the frame, and its value.
+-- The records of one group, and what they say of the frames a to b: the last frame before their next event behind frame a, the
+-- loads of those that meet the frames, and the value of one frame.
 use Prim.Native.Nat.{ℕ, _-_, _*_, _≤_, min}
 use mathlib.Core.Bool.{Bool, _&&_, cond}
 use mathlib.Core.List.{List, [], _∷_}
@@ -33,14 +33,14 @@ onlyOf g (r ∷ rs) =
     (record { first = r .first; last = r .last; load = r .value } ∷ onlyOf g rs)
     (onlyOf g rs)
 
--- the record holds frame a
-abbrev pub held : ℕ → Own → Bool
-held a r = leb (r .first) a && leb a (r .last)
+-- the record holds some frame of a to b
+abbrev pub held : ℕ → ℕ → Own → Bool
+held a b r = leb (r .first) b && leb a (r .last)
 
--- the loads of the records that hold frame a
-unfoldable pub loadsAt : ℕ → List Own → List ℕ
-loadsAt a [] = []
-loadsAt a (r ∷ rs) = cond (held a r) (r .load ∷ loadsAt a rs) (loadsAt a rs)
+-- the loads of the records that do
+unfoldable pub loadsAt : ℕ → ℕ → List Own → List ℕ
+loadsAt a b [] = []
+loadsAt a b (r ∷ rs) = cond (held a b r) (r .load ∷ loadsAt a b rs) (loadsAt a b rs)
 
 -- the last frame up to which the record holds each frame from a on, or holds none of them
 unfoldable pub stopOf : ℕ → Own → ℕ
@@ -51,13 +51,14 @@ unfoldable pub stopAt : ℕ → List Own → ℕ
 stopAt a [] = 65535
 stopAt a (r ∷ rs) = min (stopOf a r) (stopAt a rs)
 
--- what is found at frame a, field by field; and the sum of at most 128 loads of 16 bits is no greater than so many can have
-pub record Survey (a : ℕ) (own : List Own) (here : Here) : Type 0 where
+-- what is found of the frames a to b, field by field; and the sum of at most 128 loads of 16 bits is no greater than so many can
+-- have
+pub record Survey (a b : ℕ) (own : List Own) (here : Here) : Type 0 where
   pub stops : here .stop ≡ stopAt a own
-  pub counts : here .count ≡ length (loadsAt a own)
-  pub sums : here .sum ≡ sum (loadsAt a own)
+  pub counts : here .count ≡ length (loadsAt a b own)
+  pub sums : here .sum ≡ sum (loadsAt a b own)
   pub sum-le : here .sum ≤ 65535 * 128
 
 -- the value of a frame by the records of its group alone
 unfoldable pub ownValue : ℕ → List Own → ℕ → ℕ → Option ℕ
-ownValue kind own g f = aggregated kind (loadsAt f own)
+ownValue kind own g f = aggregated kind (loadsAt f f own)

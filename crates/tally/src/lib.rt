@@ -1,6 +1,7 @@
-// The records of one group, and what they say at a frame: where the next event comes, how many hold the frame, and the value by
-// the kind. An event is a record's first frame or the frame after its last. The records of a group are put side by side first:
-// the loops over them then have no branch, and the compiler works on eight records at a time. Arrays are lent and never copied.
+// The records of one group, and what they say of a stretch of frames, which may be one frame: where the next event behind its
+// first frame comes, how many records meet it, and the value by the kind. An event is a record's first frame or the frame after
+// its last, and a record meets a stretch if it holds some frame of it. The records of a group are put side by side first: the loops
+// over them then have no branch, and the compiler works on eight records at a time. Arrays are lent and never copied.
 
 use model::MOST_RECORDS;
 ghost use mathlib.Core.Path.{_≡_};
@@ -20,7 +21,8 @@ pub struct Own {
     pub load: u16,
 }
 
-// What is found at a frame: the last frame before the next event, how many records hold the frame, and the sum of their loads.
+// What is found of a stretch: the last frame before the next event behind its first frame, how many records meet it, and the sum
+// of their loads.
 pub struct Here {
     pub stop: u16,
     pub count: u16,
@@ -127,11 +129,11 @@ pub fn select<'a>(
     own
 }
 
-// Whether a record holds frame a.
-fn holds(record: Own, a: u16) -> bool
-    ensures { λ r. ⌜ r ≡ held a «record» ⌝ }
+// Whether a record holds some frame of a to b.
+fn holds(record: Own, a: u16, b: u16) -> bool
+    ensures { λ r. ⌜ r ≡ held a b «record» ⌝ }
 {
-    (record.first <= a) & (a <= record.last)
+    (record.first <= b) & (a <= record.last)
 }
 
 // The last frame up to which a record holds each frame from a on, or holds none of them.
@@ -147,17 +149,18 @@ fn stop_of(record: Own, a: u16) -> u16
     65535
 }
 
-// The last frame before the next event behind frame a, and the count and sum of the records that hold the frame. The sum is kept
-// as those of the loads' lower and upper bytes, which both fit 16 bits.
+// The last frame before the next event behind frame a, and the count and sum of the records that meet the frames a to b. The sum
+// is kept as those of the loads' lower and upper bytes, which both fit 16 bits.
 pub fn survey<'a>(
     firsts: &'a [u16; MOST_RECORDS],
     lasts: &'a [u16; MOST_RECORDS],
     loads: &'a [u16; MOST_RECORDS],
     own: usize,
     a: u16,
+    b: u16,
 ) -> Here
     requires { ⌜ own ≤ 128 ⌝ }
-    ensures { λ r. ⌜ Survey a (ownsIn (now (firsts .entry)) (now (lasts .entry)) (now (loads .entry)) own) r ⌝ }
+    ensures { λ r. ⌜ Survey a b (ownsIn (now (firsts .entry)) (now (lasts .entry)) (now (loads .entry)) own) r ⌝ }
 {
     let mut stop: u16 = 65535;
     let mut count: u16 = 0;
@@ -166,7 +169,7 @@ pub fn survey<'a>(
     let mut index: usize = 0;
     while index < own {
         let record = record_at(firsts, lasts, loads, index);
-        let held = holds(record, a);
+        let held = holds(record, a, b);
         let load = pick(held, record.load, 0);
         stop = lower(stop, stop_of(record, a));
         count += held as u16;
@@ -181,45 +184,47 @@ pub fn survey<'a>(
     }
 }
 
-// The least load of the records that hold frame a, where some record does.
+// The least load of the records that meet the frames a to b, where some record does.
 fn least<'a>(
     firsts: &'a [u16; MOST_RECORDS],
     lasts: &'a [u16; MOST_RECORDS],
     loads: &'a [u16; MOST_RECORDS],
     own: usize,
     a: u16,
+    b: u16,
 ) -> u16
     requires { ⌜ own ≤ 128 ⌝ }
-    requires { ⌜ (length (loadsAt a (ownsIn (now firsts) (now lasts) (now loads) own)) ≡ 0 → ⊥) ⌝ }
-    ensures { λ r. ⌜ aggregated 2 (loadsAt a (ownsIn (now (firsts .entry)) (now (lasts .entry)) (now (loads .entry)) own)) ≡ some r ⌝ }
+    requires { ⌜ (length (loadsAt a b (ownsIn (now firsts) (now lasts) (now loads) own)) ≡ 0 → ⊥) ⌝ }
+    ensures { λ r. ⌜ aggregated 2 (loadsAt a b (ownsIn (now (firsts .entry)) (now (lasts .entry)) (now (loads .entry)) own)) ≡ some r ⌝ }
 {
     let mut found: u16 = 65535;
     let mut index: usize = 0;
     while index < own {
         let record = record_at(firsts, lasts, loads, index);
-        found = lower(found, pick(holds(record, a), record.load, 65535));
+        found = lower(found, pick(holds(record, a, b), record.load, 65535));
         index += 1;
     }
     found
 }
 
-// The greatest load of the records that hold frame a, where some record does.
+// The greatest load of the records that meet the frames a to b, where some record does.
 fn greatest<'a>(
     firsts: &'a [u16; MOST_RECORDS],
     lasts: &'a [u16; MOST_RECORDS],
     loads: &'a [u16; MOST_RECORDS],
     own: usize,
     a: u16,
+    b: u16,
 ) -> u16
     requires { ⌜ own ≤ 128 ⌝ }
-    requires { ⌜ (length (loadsAt a (ownsIn (now firsts) (now lasts) (now loads) own)) ≡ 0 → ⊥) ⌝ }
-    ensures { λ r. ⌜ aggregated 3 (loadsAt a (ownsIn (now (firsts .entry)) (now (lasts .entry)) (now (loads .entry)) own)) ≡ some r ⌝ }
+    requires { ⌜ (length (loadsAt a b (ownsIn (now firsts) (now lasts) (now loads) own)) ≡ 0 → ⊥) ⌝ }
+    ensures { λ r. ⌜ aggregated 3 (loadsAt a b (ownsIn (now (firsts .entry)) (now (lasts .entry)) (now (loads .entry)) own)) ≡ some r ⌝ }
 {
     let mut found: u16 = 0;
     let mut index: usize = 0;
     while index < own {
         let record = record_at(firsts, lasts, loads, index);
-        found = higher(found, pick(holds(record, a), record.load, 0));
+        found = higher(found, pick(holds(record, a, b), record.load, 0));
         index += 1;
     }
     found
@@ -233,7 +238,7 @@ fn mean(sum: u32, count: u32) -> u32
     (100 * sum) / count
 }
 
-// The value of frame a by the kind, where some record holds the frame.
+// The value of the frames a to b by the kind, where some record meets them.
 pub fn value_at<'a>(
     kind: u8,
     here: Here,
@@ -242,17 +247,18 @@ pub fn value_at<'a>(
     loads: &'a [u16; MOST_RECORDS],
     own: usize,
     a: u16,
+    b: u16,
 ) -> u32
     requires { ⌜ own ≤ 128 ⌝ }
-    requires { ⌜ Survey a (ownsIn (now firsts) (now lasts) (now loads) own) here ⌝ }
-    requires { ⌜ (length (loadsAt a (ownsIn (now firsts) (now lasts) (now loads) own)) ≡ 0 → ⊥) ⌝ }
-    ensures { λ r. ⌜ aggregated kind (loadsAt a (ownsIn (now (firsts .entry)) (now (lasts .entry)) (now (loads .entry)) own)) ≡ some r ⌝ }
+    requires { ⌜ Survey a b (ownsIn (now firsts) (now lasts) (now loads) own) here ⌝ }
+    requires { ⌜ (length (loadsAt a b (ownsIn (now firsts) (now lasts) (now loads) own)) ≡ 0 → ⊥) ⌝ }
+    ensures { λ r. ⌜ aggregated kind (loadsAt a b (ownsIn (now (firsts .entry)) (now (lasts .entry)) (now (loads .entry)) own)) ≡ some r ⌝ }
 {
     match kind {
         0 => here.sum,
         1 => wide(here.count),
-        2 => wide(least(firsts, lasts, loads, own, a)),
-        3 => wide(greatest(firsts, lasts, loads, own, a)),
+        2 => wide(least(firsts, lasts, loads, own, a, b)),
+        3 => wide(greatest(firsts, lasts, loads, own, a, b)),
         4 => mean(here.sum, wide(here.count)),
         _ => 0,
     }

@@ -131,27 +131,36 @@ meeting-le (r ∷ rs) g a b small =
     ))
     (λ e. rw e (omega arith, ih .1))
 
+-- a frame's value is that of the loads that meet it
+frame-value : (kind : ℕ) (rs : List (Span ℕ)) (g f v : ℕ) → value kind rs g f ≡ some v
+    → aggregated kind (meeting rs g f f) ≡ some v
+unfolding value
+frame-value kind rs g f v e =
+    cases (ltb g groupCount && ltb f frameCount) (λ t. rw t at e) (λ t. absurd (none≢some refl (rw t at e)))
+
 module _ (kind : ℕ) (rs : List (Span ℕ)) (few : length rs ≤ mostRecords)
     (small : (r : Span ℕ) → List·Memᴰ r rs → r .value ≤ 1000) where
-  -- what holds of at most 128 loads that sum to at most 1,000 for each of them, and of their value, holds of the loads at a
-  -- frame and of its value
-  at-frame : (P : List ℕ → ℕ → Type 0)
+  -- what holds of at most 128 loads that sum to at most 1,000 for each of them, and of their value, holds of the loads that meet a
+  -- stretch of frames and of their value
+  at-stretch : (P : List ℕ → ℕ → Type 0)
       → ((x : ℕ) (xs : List ℕ) → suc (length xs) ≤ 128 → x + sum xs ≤ 1000 * suc (length xs) → P (x ∷ xs) (aggregate kind x xs))
-      → (g f v : ℕ) → value kind rs g f ≡ some v → P (meeting rs g f f) v
-  unfolding value aggregated mostRecords sum
-  at-frame P each-has g f v e =
-      let loads = meeting-le rs g f f small in
-      cases (ltb g groupCount && ltb f frameCount)
-      (λ t. by (meeting rs g f f) (le-trans (loads .0) few) (sum-le (meeting rs g f f) (loads .1)) (rw t at e))
-      (λ t. absurd (none≢some refl (rw t at e)))
+      → (g a b v : ℕ) → aggregated kind (meeting rs g a b) ≡ some v → P (meeting rs g a b) v
+  unfolding aggregated mostRecords sum
+  at-stretch P each-has g a b v e =
+      let loads = meeting-le rs g a b small in
+      by (meeting rs g a b) (le-trans (loads .0) few) (sum-le (meeting rs g a b) (loads .1)) e
     where
       by : (l : List ℕ) → length l ≤ 128 → sum l ≤ 1000 * length l → aggregated kind l ≡ some v → P l v
       by [] short low known = absurd (none≢some refl known)
       by (x ∷ xs) short low known = let is : aggregate kind x xs ≡ v = cc in subst (P (x ∷ xs)) is (each-has x xs short low)
 
-  -- a frame's value is at most 128,000
+  -- the value of what meets a stretch of frames is at most 128,000
+  pub stretch-le : (g a b v : ℕ) → aggregated kind (meeting rs g a b) ≡ some v → v ≤ mostValue
+  stretch-le = at-stretch (λ l v. v ≤ mostValue) (aggregate-le kind)
+
+  -- so is a frame's
   pub value-le : (g f v : ℕ) → value kind rs g f ≡ some v → v ≤ mostValue
-  value-le = at-frame (λ l v. v ≤ mostValue) (aggregate-le kind)
+  value-le g f v e = stretch-le g f f v (frame-value kind rs g f v e)
 
   -- so is a segment's
   pub segment-value-le : (s : Span ℕ) → List·Memᴰ s (segments kind rs) → s .value ≤ mostValue
@@ -162,9 +171,10 @@ module _ (kind : ℕ) (rs : List (Span ℕ)) (few : length rs ≤ mostRecords)
 -- kind 4 is the mean in hundredths
 pub mean : (log : List ℕ) → AllPass (logQuestions log) → (g f v : ℕ) → value 4 (records log) g f ≡ some v
     → MeanInHundredths (meeting (records log) g f f) v
-mean log all =
+mean log all g f v e =
     let (few, sound) = sound-records log all in
-    at-frame 4 (records log) few (λ r m. sound r m .2) MeanInHundredths (λ x xs short low. mean-in-hundredths x xs low)
+    at-stretch 4 (records log) few (λ r m. sound r m .2) MeanInHundredths (λ x xs short low. mean-in-hundredths x xs low) g f f v
+    (frame-value 4 (records log) g f v e)
 
 -- the segments have no more frames than there are
 pub frames-le : (kind : ℕ) (rs : List (Span ℕ)) → sumOf spanLength (segments kind rs) ≤ groupCount * frameCount

@@ -2,6 +2,7 @@
 use Prim.Native.Nat.{ℕ, _≤_}
 use mathlib.Core.Bool.{true}
 use mathlib.Core.List.{List, [], _∷_, _++_, map, List·Memᴰ}
+use mathlib.Core.Logic.{inl, inr}
 use mathlib.Core.Option.{Option, none, some}
 use mathlib.Core.Path.{_≡_, refl, sym, ap, _∙_, subst}
 use native.Mathlib.Nat.{le-refl}
@@ -14,17 +15,21 @@ use Rattle.model.specs.Segments.{segments}
 use Rattle.model.specs.Blocks.{segmentAt}
 use Rattle.model.specs.Split.{mostRows, countFor, Reduced, reduced, reducedTo, gapBelow}
 use Rattle.model.specs.Reductions.{IsReduction}
-use Rattle.model.specs.Slot.{slotLength, slotBytes}
+use Rattle.model.specs.Windows.{boundIn}
+use Rattle.model.specs.Slot.{slotLength, byBound, byWindows, slotBytes}
+use Rattle.model.specs.Questions.{withBound, windowRows, ruleQuestion, ruledOrder, ruledQuestions}
 use Rattle.model.specs.Questions.{Question, Outcome, accepted, ask, outcome, lent, kindKnown, boundKnown, logQuestions, orderQuestions, queryQuestions, enoughRows}
 use Rattle.model.specs.Calls.{Counts, logSegments, answerOf, countsOf, queryOutcome, querySlot, readRows}
+use Rattle.model.specs.Calls.{ruledAnswer, ruledMark, ruledOutcome, ruledWeighed, ruledSlot}
 use Rattle.model.specs.Calls.{cutsWeighed, queryWeighed, boundOf, letterQuestions, letterOutcome, letterSlot, letterWeighed}
 use Rattle.model.specs.Guarantee.{Choices, BestRows}
 use Rattle.model.specs.Fitting.{FitsFor}
 use Rattle.model.specs.Demands.{AllPass, Demand1, Demand2, Demand3, Cut, Reduces, Storable, Reads, whole, listsFor, BestSlot, NeverShort}
-use Rattle.model.specs.Demands.{QueryPromise, LetterPromise}
+use Rattle.model.specs.Demands.{SpanAggregation, SpanSlot, QueryPromise, RuledPromise, LetterPromise}
 use Rattle.model.specs.declared.Bound.{Bound}
 use Rattle.model.specs.declared.Bound.the-variants.{Rows, Share}
 use Rattle.model.specs.declared.Query.{Query}
+use Rattle.model.specs.declared.RuledQuery.{RuledQuery}
 use Rattle.theory.proofs.Refusals.{all-head, all-tail, all-lent, lent-same, outcome-accepted, accepted-query, too-few}
 use Rattle.theory.proofs.Refusals as refusals
 use Rattle.theory.proofs.Tests.{cases, is-some}
@@ -39,6 +44,8 @@ use Rattle.theory.proofs.Stored.{rows-length, rows-known, rows-sorted}
 use Rattle.theory.proofs.Guarantee.{limitOf}
 use Rattle.theory.proofs.Answer.{answer-reduces, best-rows, count-le, too-few-rows, only-least, never-short}
 use Rattle.theory.proofs.Empty.{nothing-fits, empty-log}
+use Rattle.theory.proofs.Windows.{aggregation, only, window-rows-known, window-rows-sorted, frame-by-frame}
+use Rattle.theory.proofs.Ruled.{bound-outcome, bound-slot, accepted-windows, too-many, not-too-few}
 
 -- Demand 1
 pub demand1 : Demand1
@@ -113,7 +120,7 @@ slot-never-short q log slot b = rw (b .reads .body) (best-never-short q log (b .
 cut-storable : (rule kind : ℕ) (log cuts : List ℕ) (a : Reduced) → kindKnown kind ≡ true → AllPass (logQuestions log)
     → Cut rule (logSegments kind log) a cuts
     → IsReduction (gapBelow (logSegments kind log)) (length (logSegments kind log)) cuts → length cuts ≤ mostRows
-    → Storable kind (a .error) (a .rows)
+    → Storable byBound kind (a .error) (a .rows)
 unfolding logSegments
 cut-storable rule kind log cuts a known logged cut is few-cuts =
     let segs : List (Span ℕ) = logSegments kind log in
@@ -121,6 +128,7 @@ cut-storable rule kind log cuts a known logged cut is few-cuts =
     let loads : (r : Span ℕ) → List·Memᴰ r (records log) → r .value ≤ 1000 = λ r m. small r m .2 in
     let size = rows-length rule (segmentAt segs) (length segs) cuts in
     record {
+      made = inl refl;
       known = known;
       error64 =
           rw (cut .error)
@@ -142,11 +150,11 @@ module _ (q : Query) (log slot : List ℕ) (counts : Counts) (ok : queryOutcome 
   segs = logSegments (q .kind) log
 
   slot-written : querySlot q log slot
-      ≡ slotBytes (q .kind) ((answerOf q log) .error) ((answerOf q log) .rows) ++ drop slotLength slot
+      ≡ slotBytes byBound (q .kind) ((answerOf q log) .error) ((answerOf q log) .rows) ++ drop slotLength slot
   unfolding querySlot queryOutcome
   slot-written = all-lent _ _ _ (outcome-accepted _ _ counts ok .0)
 
-  pub storable : Storable (q .kind) ((answerOf q log) .error) ((answerOf q log) .rows)
+  pub storable : Storable byBound (q .kind) ((answerOf q log) .error) ((answerOf q log) .rows)
   unfolding orderQuestions logSegments ask
   storable =
       let (room, order, enough, same) = accepted-query q log (length slot) counts ok in
@@ -157,9 +165,9 @@ module _ (q : Query) (log slot : List ℕ) (counts : Counts) (ok : queryOutcome 
       cut-storable (q .kind) (q .kind) log (a .cuts) (answerOf q log) (all-head _ _ order) logged (a .cut)
       (is-reduction (q .kind) (q .bound) segs (a .cuts) (a .reduces)) (omega arith)
 
-  pub reads-back : Reads (querySlot q log slot) (q .kind) ((answerOf q log) .error) ((answerOf q log) .rows)
+  pub reads-back : Reads (querySlot q log slot) byBound (q .kind) ((answerOf q log) .error) ((answerOf q log) .rows)
   reads-back =
-      rw slot-written (round-trip (q .kind) ((answerOf q log) .error) ((answerOf q log) .rows) (drop slotLength slot) storable)
+      rw slot-written (round-trip byBound (q .kind) ((answerOf q log) .error) ((answerOf q log) .rows) (drop slotLength slot) storable)
 
   pub best : BestSlot q log (querySlot q log slot)
   unfolding logSegments
@@ -171,6 +179,40 @@ module _ (q : Query) (log slot : List ℕ) (counts : Counts) (ok : queryOutcome 
         answerError = refl;
         answerRows = refl;
         best = rw (a .cut .error, a .cut .rows) (best-rows (q .kind) (records log) (q .bound) (a .cuts) (a .reduces));
+      }
+
+-- ---- what the slot of an accepted query by windows holds
+
+module _ (q : RuledQuery) (windowed : boundIn (q .rule) ≡ none) (log slot : List ℕ) (counts : Counts)
+    (ok : ruledOutcome q log (length slot) ≡ accepted counts) where
+  passes : (ruleQuestion q) .passed ≡ true
+  unfolding ruledOrder
+  passes = all-head _ _ (all-tail _ _ (accepted-windows q windowed log (length slot) counts ok .1))
+
+  windows-storable : Storable byWindows (q .kind) 0 (windowRows q log)
+  unfolding ruledOrder ask
+  windows-storable =
+      let (room, order, few, same) = accepted-windows q windowed log (length slot) counts ok in
+      record {
+        made = inr (refl, refl);
+        known = all-head _ _ order;
+        error64 = omega arith;
+        count = few;
+        rowsKnown = window-rows-known q log windowed passes (all-tail _ _ (all-tail _ _ order));
+        sorted = window-rows-sorted q log windowed passes;
+      }
+
+  windows-written : ruledSlot q log slot ≡ slotBytes byWindows (q .kind) 0 (windowRows q log) ++ drop slotLength slot
+  unfolding ruledSlot ruledOutcome ruledAnswer ruledMark
+  windows-written = all-lent _ _ _ (outcome-accepted _ _ counts ok .0) ∙ rw (windowed, ruledAnswer, ruledMark)
+
+  pub span-slot : SpanSlot q log (ruledSlot q log slot) counts
+  span-slot =
+      record {
+        rows = windowRows q log;
+        reads = rw windows-written (round-trip byWindows (q .kind) 0 (windowRows q log) (drop slotLength slot) windows-storable);
+        aggregation = aggregation q log windowed passes;
+        counted = accepted-windows q windowed log (length slot) counts ok .3;
       }
 
 -- Demand 2
@@ -193,8 +235,11 @@ demand2 =
       written = reads-back;
       roundTrip = round-trip;
       stillRead = λ rule kind log cuts rest r known logged cut is few.
-          round-trip kind (r .error) (r .rows) rest (cut-storable rule kind log cuts r known logged cut is few);
+          round-trip byBound kind (r .error) (r .rows) rest (cut-storable rule kind log cuts r known logged cut is few);
       layout = layout;
+      windows = λ q log windowed passed rows.
+          (only q log windowed passed rows, λ e. subst (SpanAggregation q log) (sym e) (aggregation q log windowed passed));
+      frameByFrame = frame-by-frame;
     }
 
 -- Demand 3
@@ -231,6 +276,24 @@ query-promise q log slot says after answers holds =
       best = λ counts e. rw holds (best q log slot counts (sym answers ∙ e));
       neverShort = λ counts e. rw holds (slot-never-short q log _ (best q log slot counts (sym answers ∙ e)));
       tooFew = rw answers (demand3 .tooFew q log slot);
+    }
+
+-- and the same of a query by a rule
+pub ruled-promise : (q : RuledQuery) (log slot : List ℕ) (says : Outcome Counts) (after : List ℕ)
+    → says ≡ ruledOutcome q log (length slot) → after ≡ ruledSlot q log slot → RuledPromise q log slot says after
+unfolding ruledOutcome ruledWeighed countsOf
+ruled-promise q log slot says after answers holds =
+    record {
+      weighed = ap cutsWeighed answers ∙ weighed-asked (ruledQuestions q log (length slot)) (countsOf (ruledAnswer q log));
+      bounded = λ bound e.
+          query-promise (withBound q bound) log slot says after
+          (answers ∙ bound-outcome q bound e log (length slot)) (holds ∙ bound-slot q bound e log slot);
+      windowed = λ e.
+          record {
+            spans = λ counts accepts. rw holds (span-slot q e log slot counts (sym answers ∙ accepts));
+            notTooFew = λ index refuses. not-too-few q e log (length slot) index (sym answers ∙ refuses);
+            tooMany = rw answers (too-many q e log (length slot));
+          };
     }
 
 -- and the same of a query by letter

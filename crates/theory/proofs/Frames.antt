@@ -59,7 +59,7 @@ module _ {A : Type 0} (P : A → Type 0) (R : A → A → Type 0) where
 
   module _ (trans : (a b c : A) → P b → R a b → R b c → R a c) where
     -- where the relation is transitive, the first element is related to all others, and any two members are related
-    chain-later : (a : A) (l : List A) → Heads (R a) l → Chain P R l → (b : A) → List·Memᴰ b l → R a b
+    pub chain-later : (a : A) (l : List A) → Heads (R a) l → Chain P R l → (b : A) → List·Memᴰ b l → R a b
     chain-later a [] h c b m = elim m [ ]
     chain-later a (d ∷ l) h c b m =
         ⊎-elim (λ e. subst (R a) (sym e) h) (λ n. chain-later a l (heads-map l (λ x r. trans a d x (c .0) h r) (c .1)) (c .2) b n)

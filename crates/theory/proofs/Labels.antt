@@ -81,7 +81,7 @@ sumOf-ones [] = refl
 sumOf-ones (a ∷ l) = omega (arith, sumOf-ones l)
 
 -- a member that contains a frame is counted
-member-hits : {A : Type 0} (g f : ℕ) (r : Span A) (rows : List (Span A)) → List·Memᴰ r rows → holds r g f ≡ true
+pub member-hits : {A : Type 0} (g f : ℕ) (r : Span A) (rows : List (Span A)) → List·Memᴰ r rows → holds r g f ≡ true
     → 1 ≤ hits rows g f
 unfolding hits
 member-hits g f r (s ∷ rows) (List·Memᴰ·head e) h = rw (← ap (λ (t : Span _). holds t g f) e, h) (omega arith)

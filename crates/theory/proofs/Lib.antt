@@ -21,6 +21,8 @@ pub mod Labels
 pub mod Cutting
 pub mod Bounds
 pub mod Stored
+pub mod Windows
+pub mod Ruled
 pub mod Guarantee
 pub mod Answer
 pub mod Empty
@@ -31,3 +33,4 @@ pub mod Refutations
 pub mod RefutedGreatest
 pub mod RefutedReductions
 pub mod RefutedCalls
+pub mod RefutedWindows

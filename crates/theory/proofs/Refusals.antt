@@ -13,9 +13,9 @@ use borrow.Author.Tests.{le-leb, leb-true, eqb-true, eqb-false}
 use lib.ListN.{length}
 use Rattle.model.specs.Slot.{slotLength}
 use Rattle.model.specs.Questions.{Question, Outcome, refused, accepted, ask, askRoom, outcome, lent, each, enoughRows}
-use Rattle.model.specs.Questions.{orderQuestions, writeQuestions, segmentsQuestions, queryQuestions, slotQuestions}
+use Rattle.model.specs.Questions.{ruledQuestions, orderQuestions, writeQuestions, segmentsQuestions, queryQuestions, slotQuestions}
 use Rattle.model.specs.Calls.{Counts, writeOutcome, writtenBuffer, segmentsOutcome, filledList, queryOutcome, querySlot, answerOf, countsOf, readOutcome, readListQuestions, readListOutcome, readList, stepOutcome, stepNext, lookupOutcome}
-use Rattle.model.specs.Calls.{boundOf, byLetterQuestions, letterOutcome, letterSlot}
+use Rattle.model.specs.Calls.{ruledOutcome, ruledSlot, boundOf, byLetterQuestions, letterOutcome, letterSlot}
 use Rattle.model.specs.Demands.{AllPass, FirstNo, Asks, Demand1}
 use Rattle.model.specs.declared.Bound.{Bound}
 use Rattle.model.specs.declared.Query.{Query}
@@ -233,12 +233,13 @@ letter-asks kind letter x log slot = by (boundOf letter x) refl
 
 -- the first demand
 pub demand1 : Demand1
-unfolding writeOutcome writtenBuffer segmentsOutcome filledList queryOutcome querySlot readOutcome readListOutcome readList stepOutcome stepNext lookupOutcome
+unfolding writeOutcome writtenBuffer segmentsOutcome filledList queryOutcome querySlot ruledOutcome ruledSlot readOutcome readListOutcome readList stepOutcome stepNext lookupOutcome
 demand1 =
     record {
       write = λ r buffer. asks _ _ _ _ (λ n i. refused-lent (writeQuestions r (length buffer)) _ n i _ _);
       segments = λ kind log list. asks _ _ _ _ (λ n i. refused-lent (segmentsQuestions kind log (length list)) _ n i _ _);
       query = λ q log slot. asks _ _ _ _ (λ n i. refused-lent (queryQuestions q log (length slot)) _ n i _ _);
+      ruled = λ q log slot. asks _ _ _ _ (λ n i. refused-lent (ruledQuestions q log (length slot)) _ n i _ _);
       letter = letter-asks;
       read = λ slot. asks _ _ _ _ (λ n i e. refl);
       readList = λ slot list. asks _ _ _ _ (λ n i. refused-lent (readListQuestions slot (length list)) _ n i _ _);

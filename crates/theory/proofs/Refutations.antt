@@ -16,9 +16,9 @@ use Rattle.model.specs.Spans.{Span, groupCount, frameCount, meets, holds}
 use Rattle.model.specs.Log.{recordLength, recordBytes, recordAt, recordCount, records, meeting, sum, aggregate, aggregated, value}
 use Rattle.model.specs.Blocks.{segmentAt, squared}
 use Rattle.model.specs.Split.{Reduced, mostRows, reduced}
-use Rattle.model.specs.Slot.{slotLength, rowBytes, rowsBytes, usedBytes, slotBytes, rowPlace, slotKind, slotCount, slotError, slotRow, slotRows, valueIn}
+use Rattle.model.specs.Slot.{slotLength, byBound, byWindows, rowBytes, rowsBytes, usedBytes, slotBytes, rowPlace, slotMark, slotKind, slotCount, slotError, slotRow, slotRows, valueIn}
 use Rattle.model.specs.Questions.{refused, accepted, ask, askRoom, outcome, each, marked, kindKnown, boundKnown, groupKnown, mostRecords, spanQuestions, recordQuestions, logQuestions, orderQuestions}
-use Rattle.model.specs.Questions.{lent, follows, inOrder, rowKnown, rowQuestions, zeros, tailZero, slotQuestions}
+use Rattle.model.specs.Questions.{lent, follows, inOrder, rowKnown, rowQuestions, zeros, tailZero, errorKnown, headerMarked, slotQuestions}
 use Rattle.model.specs.Calls.{Counts, logSegments, answerOf, countsOf, queryOutcome, cutsWeighed, queryWeighed, boundOf, letterWeighed, Header, readOutcome, readRows}
 use Rattle.model.specs.Guarantee.{Choices, LeastOfFewest, WithinShare, Exceeds, BestOfLimit, BestOfShare, BestRows, NoRows}
 use Rattle.model.specs.Fitting.{hits, due, FitsFor, frameCost, overFrames, squaredError, rowLists}
@@ -310,10 +310,12 @@ said-of-a-share says =
 
 -- the slots of G's four rows, of the same rows with another error, of one row per run, and of its five rows; and a slot of
 -- zeros
-readings : Reads (slotBytes 0 11280 rows-G) 0 11280 rows-G × Reads (slotBytes 0 11281 rows-G) 0 11281 rows-G
-    × Reads (slotBytes 0 40087 runs-G) 0 40087 runs-G × Reads (slotBytes 0 67 five-G) 0 67 five-G
+readings : Reads (slotBytes byBound 0 11280 rows-G) byBound 0 11280 rows-G
+    × Reads (slotBytes byBound 0 11281 rows-G) byBound 0 11281 rows-G
+    × Reads (slotBytes byBound 0 40087 runs-G) byBound 0 40087 runs-G
+    × Reads (slotBytes byBound 0 67 five-G) byBound 0 67 five-G
     × (readOutcome (replicate 768 0) ≡ refused 11 0)
-unfolding listFrom numberAt bytesOf slotLength rowBytes rowsBytes usedBytes slotBytes rowPlace slotKind slotCount slotError slotRow slotRows ask outcome lent each marked askRoom kindKnown groupKnown mostRows follows inOrder rowKnown rowQuestions zeros tailZero slotQuestions readOutcome readRows
+unfolding listFrom numberAt bytesOf slotLength rowBytes rowsBytes usedBytes slotBytes rowPlace slotMark slotKind slotCount slotError slotRow slotRows ask outcome lent each marked askRoom kindKnown groupKnown mostRows follows inOrder rowKnown rowQuestions zeros tailZero errorKnown headerMarked slotQuestions readOutcome readRows
 readings = (
   record { header = refl; body = refl },
   record { header = refl; body = refl },
@@ -322,25 +324,33 @@ readings = (
   refl,
 )
 
--- a slot is read to one kind, one error and one list of rows
-one-reading : (slot : List ℕ) (kind kind′ error error′ : ℕ) (rows rows′ : List (Span ℕ)) → Reads slot kind error rows
-    → Reads slot kind′ error′ rows′ → (kind ≡ kind′) × (error ≡ error′) × (rows ≡ rows′)
-one-reading slot kind kind′ error error′ rows rows′ a b =
-    let same = accepted-inj (sym (a .header) ∙ b .header) in
-    (ap (λ (h : Header). h .kind) same, ap (λ (h : Header). h .error) same, sym (a .body) ∙ b .body)
+-- a slot is read to one mark, one kind, one error and one list of rows
+one-reading : (slot : List ℕ) (mark mark′ kind kind′ error error′ : ℕ) (rows rows′ : List (Span ℕ))
+    → Reads slot mark kind error rows → Reads slot mark′ kind′ error′ rows′
+    → (mark ≡ mark′) × (kind ≡ kind′) × (error ≡ error′) × (rows ≡ rows′)
+one-reading slot mark mark′ kind kind′ error error′ rows rows′ a b =
+    let same = accepted-inj (sym (a .header) ∙ b .header) in (
+      ap (λ (h : Header). h .mark) same,
+      ap (λ (h : Header). h .kind) same,
+      ap (λ (h : Header). h .error) same,
+      sym (a .body) ∙ b .body,
+    )
 
--- another kind, another error (header)
-pub read-to-another-kind : Reads (slotBytes 0 11280 rows-G) 1 11280 rows-G → ⊥
-read-to-another-kind r = omega (arith, one-reading _ 1 0 _ _ _ _ r (readings .0) .0)
+-- another mark, another kind, another error (header)
+pub read-to-another-mark : Reads (slotBytes byBound 0 11280 rows-G) byWindows 0 11280 rows-G → ⊥
+read-to-another-mark r = omega (arith, one-reading _ byWindows byBound _ _ _ _ _ _ r (readings .0) .0)
 
-pub read-to-another-error : Reads (slotBytes 0 11280 rows-G) 0 11281 rows-G → ⊥
-read-to-another-error r = omega (arith, one-reading _ _ _ 11281 11280 _ _ r (readings .0) .1)
+pub read-to-another-kind : Reads (slotBytes byBound 0 11280 rows-G) byBound 1 11280 rows-G → ⊥
+read-to-another-kind r = omega (arith, one-reading _ _ _ 1 0 _ _ _ _ r (readings .0) .1)
+
+pub read-to-another-error : Reads (slotBytes byBound 0 11280 rows-G) byBound 0 11281 rows-G → ⊥
+read-to-another-error r = omega (arith, one-reading _ _ _ _ _ 11281 11280 _ _ r (readings .0) .2)
 
 -- other rows, as many (body)
-pub read-to-other-rows : Reads (slotBytes 0 11280 rows-G) 0 11280 other-G → ⊥
+pub read-to-other-rows : Reads (slotBytes byBound 0 11280 rows-G) byBound 0 11280 other-G → ⊥
 unfolding segmentAt
 read-to-other-rows r =
-    omega (arith, ap (λ l. (segmentAt l 0) .last) (one-reading _ _ _ _ _ other-G rows-G r (readings .0) .2))
+    omega (arith, ap (λ l. (segmentAt l 0) .last) (one-reading _ _ _ _ _ _ _ other-G rows-G r (readings .0) .3))
 
 -- ---- the slot that a query leaves
 
@@ -358,31 +368,31 @@ pub slot-untouched : BestSlot (query 0 (Rows 4)) (bytes log-G) (replicate 768 0)
 slot-untouched b = accepted≢refused (sym (b .reads .header) ∙ readings .4)
 
 -- the right rows with another error in the header (answerError)
-pub slot-with-another-error : BestSlot (query 0 (Rows 4)) (bytes log-G) (slotBytes 0 11281 rows-G) → ⊥
+pub slot-with-another-error : BestSlot (query 0 (Rows 4)) (bytes log-G) (slotBytes byBound 0 11281 rows-G) → ⊥
 slot-with-another-error b =
-    let error = one-reading _ _ _ _ _ _ _ (b .reads) (readings .1) .1 in
+    let error = one-reading _ _ _ _ _ _ _ _ _ (b .reads) (readings .1) .2 in
     let answer = b .answerError ∙ ap (λ (a : Reduced). a .error) four-answer in
     omega arith
 
 -- one row per run (answerRows)
-pub slot-with-other-rows : BestSlot (query 0 (Rows 4)) (bytes log-G) (slotBytes 0 40087 runs-G) → ⊥
+pub slot-with-other-rows : BestSlot (query 0 (Rows 4)) (bytes log-G) (slotBytes byBound 0 40087 runs-G) → ⊥
 unfolding segmentAt
 slot-with-other-rows b =
-    let rows = one-reading _ _ _ _ _ _ _ (b .reads) (readings .2) .2 in
+    let rows = one-reading _ _ _ _ _ _ _ _ _ (b .reads) (readings .2) .3 in
     let answer = b .answerRows ∙ ap (λ (a : Reduced). a .rows) four-answer in
     omega (arith, ap (λ l. (segmentAt l 0) .last) (sym rows ∙ answer))
 
 -- and the same slot, not asking what the paper's answer is (best)
-pub slot-not-best : BestSlot (query 0 (Rows 4)) (bytes log-G) (slotBytes 0 40087 runs-G) → ⊥
+pub slot-not-best : BestSlot (query 0 (Rows 4)) (bytes log-G) (slotBytes byBound 0 40087 runs-G) → ⊥
 slot-not-best b =
-    let (kind, error, rows) = one-reading _ _ _ _ _ _ _ (b .reads) (readings .2) in
+    let (mark, kind, error, rows) = one-reading _ _ _ _ _ _ _ _ _ (b .reads) (readings .2) in
     one-row-per-run
     (subst (λ rs. BestOfLimit (rowLists 0 (value 0 rs)) 4 40087 (map whole runs-G)) decoded (rw (error, rows) at (b .best)))
 
 -- five rows for p = 282 (best, with a share)
-pub slot-not-fewest : BestSlot (query 0 (Share 282)) (bytes log-G) (slotBytes 0 67 five-G) → ⊥
+pub slot-not-fewest : BestSlot (query 0 (Share 282)) (bytes log-G) (slotBytes byBound 0 67 five-G) → ⊥
 slot-not-fewest b =
-    let (kind, error, rows) = one-reading _ _ _ _ _ _ _ (b .reads) (readings .3) in
+    let (mark, kind, error, rows) = one-reading _ _ _ _ _ _ _ _ _ (b .reads) (readings .3) in
     five-rows-for-282
     (subst (λ rs. BestOfShare (rowLists 0 (value 0 rs)) 282 67 (map whole five-G)) decoded (rw (error, rows) at (b .best)))
 

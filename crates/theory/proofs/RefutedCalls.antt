@@ -3,6 +3,7 @@
 use Prim.Native.Nat.{ℕ}
 use mathlib.Core.Bool.{true, false}
 use mathlib.Core.List.{List, [], _∷_, append-nil}
+use mathlib.Core.Logic.{_⊎_, inl, inr}
 use mathlib.Core.Option.{Option}
 use mathlib.Core.Path.{_≡_, refl, sym, ap, ap₂, _∙_, subst}
 use native.Mathlib.Omega.{arith}
@@ -11,8 +12,8 @@ use Rattle.model.specs.Common.{listFrom, numberAt, bytesOf}
 use Rattle.model.specs.Spans.{Span}
 use Rattle.model.specs.Log.{recordLength, recordBytes}
 use Rattle.model.specs.Split.{mostRows}
-use Rattle.model.specs.Slot.{slotLength, rowBytes, rowsBytes, usedBytes, slotBytes, rowPlace, slotKind, slotCount, slotError, slotRow, slotRows}
-use Rattle.model.specs.Questions.{Question, Outcome, refused, accepted, ask, askRoom, outcome, each, marked, kindKnown, groupKnown, spanQuestions, mostSegments, follows, inOrder, rowKnown, rowQuestions, zeros, tailZero}
+use Rattle.model.specs.Slot.{slotLength, byBound, byWindows, rowBytes, rowsBytes, usedBytes, slotBytes, rowPlace, slotMark, slotKind, slotCount, slotError, slotRow, slotRows}
+use Rattle.model.specs.Questions.{Question, Outcome, refused, accepted, ask, askRoom, outcome, each, marked, kindKnown, groupKnown, spanQuestions, mostSegments, follows, inOrder, rowKnown, rowQuestions, zeros, tailZero, errorKnown, headerMarked}
 use Rattle.model.specs.Questions.{writeQuestions, segmentsQuestions, orderQuestions, logQuestions, queryQuestions, slotQuestions, lookupQuestions}
 use Rattle.model.specs.Calls.{Counts, Header, writeOutcome, writtenBuffer, segmentsOutcome, filledList, queryOutcome, querySlot, boundOf, letterQuestions, byLetterQuestions, letterOutcome, letterSlot, readOutcome, readRows, readListQuestions, readListOutcome, readList, stepOutcome, stepNext, lookupOutcome}
 use Rattle.model.specs.Demands.{FirstNo, Asks, Storable}
@@ -87,10 +88,12 @@ first-noes : (outcome (writeQuestions wrong-record 9) (tt {0}) ≡ refused 7 0)
     × (outcome (queryQuestions (query 5 (Rows 65)) [] 768) (tt {0}) ≡ refused 2 0)
     × (outcome (byLetterQuestions 0 0x41 4 [] 768) (tt {0}) ≡ refused 3 0)
     × (outcome (slotQuestions zero-slot) (tt {0}) ≡ refused 11 0)
-    × (outcome (lookupQuestions (slotBytes 0 11280 rows-G) 8) (tt {0}) ≡ refused 7 0)
+    × (outcome (lookupQuestions (slotBytes byBound 0 11280 rows-G) 8) (tt {0}) ≡ refused 7 0)
     × (outcome (readListQuestions zero-slot 64) (tt {0}) ≡ refused 11 0)
-unfolding outcome ask askRoom writeQuestions spanQuestions groupKnown recordLength segmentsQuestions mostSegments kindKnown logQuestions queryQuestions orderQuestions slotLength byLetterQuestions boundOf letterQuestions slotQuestions lookupQuestions readListQuestions marked slotBytes usedBytes rowsBytes rowBytes bytesOf slotKind slotCount slotRow rowPlace numberAt each rowQuestions rowKnown inOrder follows tailZero zeros mostRows
-first-noes = (refl, refl, refl, refl, refl, refl, refl)
+    × (outcome (slotQuestions (slotBytes 0x43 0 0 [])) (tt {0}) ≡ refused 11 0)
+    × (outcome (slotQuestions (slotBytes byWindows 0 11280 rows-G)) (tt {0}) ≡ refused 17 0)
+unfolding outcome ask askRoom writeQuestions spanQuestions groupKnown recordLength segmentsQuestions mostSegments kindKnown logQuestions queryQuestions orderQuestions slotLength byLetterQuestions boundOf letterQuestions slotQuestions lookupQuestions readListQuestions marked slotBytes usedBytes rowsBytes rowBytes bytesOf slotMark slotKind slotCount slotError slotRow rowPlace numberAt each rowQuestions rowKnown inOrder follows headerMarked tailZero errorKnown zeros mostRows
+first-noes = (refl, refl, refl, refl, refl, refl, refl, refl, refl)
 
 -- accepted in spite of a 'no' (acceptance), refused by a later 'no' (refusal), refused and written all the same (refusal)
 pub accepted-in-spite : Asks (writeQuestions wrong-record 9) (accepted (tt {0})) nines nines → ⊥
@@ -118,14 +121,14 @@ wrong-segments =
     ((λ n e. accepted≢refused (sym e ∙ says)), λ e. omega (arith, ap length (sym e ∙ kept)))
 
 pub wrong-query : ((counts : Counts) → queryOutcome (query 5 (Rows 65)) [] 768 ≡ accepted counts → ⊥)
-    × (querySlot (query 5 (Rows 65)) [] zero-slot ≡ slotBytes 5 0 [] → ⊥)
+    × (querySlot (query 5 (Rows 65)) [] zero-slot ≡ slotBytes byBound 5 0 [] → ⊥)
 unfolding slotBytes usedBytes
 wrong-query =
     let (says, kept) = asks-refused _ _ _ 2 0 (first-noes .2) _ (demand1 .query (query 5 (Rows 65)) [] zero-slot) in
     ((λ counts e. accepted≢refused (sym e ∙ says)), λ e. omega (arith, ap (λ (l : List ℕ). getD l 0 0) (sym e ∙ kept)))
 
 pub wrong-letter : ((counts : Counts) → letterOutcome 0 0x41 4 [] 768 ≡ accepted counts → ⊥)
-    × (letterSlot 0 0x41 4 [] zero-slot ≡ slotBytes 0 0 [] → ⊥)
+    × (letterSlot 0 0x41 4 [] zero-slot ≡ slotBytes byBound 0 0 [] → ⊥)
 unfolding slotBytes usedBytes
 wrong-letter =
     let (says, kept) = asks-refused _ _ _ 3 0 (first-noes .3) _ (demand1 .letter 0 0x41 4 [] zero-slot) in
@@ -135,6 +138,19 @@ pub wrong-read : (header : Header) → readOutcome zero-slot ≡ accepted header
 wrong-read header e =
     let (says, kept) = asks-refused _ _ _ 11 0 (first-noes .4) _ (demand1 .read zero-slot) in
     accepted≢refused (sym e ∙ says)
+
+-- a header of neither mark
+pub wrong-mark : (header : Header) → readOutcome (slotBytes 0x43 0 0 []) ≡ accepted header → ⊥
+wrong-mark header e =
+    let (says, kept) = asks-refused _ _ _ 11 0 (first-noes .7) _ (demand1 .read (slotBytes 0x43 0 0 [])) in
+    accepted≢refused (sym e ∙ says)
+
+-- rows by windows with an error, accepted, and refused with 11 as though their header were unknown
+pub windows-with-an-error : ((header : Header) → readOutcome (slotBytes byWindows 0 11280 rows-G) ≡ accepted header → ⊥)
+    × ((index : ℕ) → readOutcome (slotBytes byWindows 0 11280 rows-G) ≡ refused 11 index → ⊥)
+windows-with-an-error =
+    let (says, kept) = asks-refused _ _ _ 17 0 (first-noes .8) _ (demand1 .read (slotBytes byWindows 0 11280 rows-G)) in
+    ((λ header e. accepted≢refused (sym e ∙ says)), λ index e. omega (arith, refused-number (sym e ∙ says) .0))
 
 pub wrong-read-list : ((header : Header) → readListOutcome zero-slot 64 ≡ accepted header → ⊥) × (readList zero-slot nine-rows ≡ [] → ⊥)
 wrong-read-list =
@@ -146,9 +162,9 @@ wrong-step =
     let (says, kept) = asks-refused _ _ _ 11 0 (first-noes .4) _ (demand1 .step zero-slot 0) in
     ((λ row e. accepted≢refused (sym e ∙ says)), λ e. omega arith)
 
-pub wrong-lookup : (value : Option ℕ) → lookupOutcome (slotBytes 0 11280 rows-G) 8 0 ≡ accepted value → ⊥
+pub wrong-lookup : (value : Option ℕ) → lookupOutcome (slotBytes byBound 0 11280 rows-G) 8 0 ≡ accepted value → ⊥
 wrong-lookup value e =
-    let (says, kept) = asks-refused _ _ _ 7 0 (first-noes .5) _ (demand1 .lookup (slotBytes 0 11280 rows-G) 8 0) in
+    let (says, kept) = asks-refused _ _ _ 7 0 (first-noes .5) _ (demand1 .lookup (slotBytes byBound 0 11280 rows-G) 8 0) in
     accepted≢refused (sym e ∙ says)
 
 -- ---- slots
@@ -160,30 +176,41 @@ slot-not-written e =
     wrong-read _ (ap readOutcome (sym e) ∙ reads .header)
 
 -- rows written and refused by the reader (roundTrip)
-pub written-not-read : (number index : ℕ) → readOutcome (slotBytes 0 11280 rows-G) ≡ refused number index → ⊥
+pub written-not-read : (number index : ℕ) → readOutcome (slotBytes byBound 0 11280 rows-G) ≡ refused number index → ⊥
 written-not-read number index e =
-    let held : Storable 0 11280 rows-G =
-    subst (λ a. Storable 0 (a .error) (a .rows)) four-answer (storable (query 0 (Rows 4)) (bytes log-G) zero-slot _ four-outcome) in
-    let reads = demand2 .roundTrip 0 11280 rows-G [] held in
+    let held : Storable byBound 0 11280 rows-G =
+    subst (λ a. Storable byBound 0 (a .error) (a .rows)) four-answer
+    (storable (query 0 (Rows 4)) (bytes log-G) zero-slot _ four-outcome) in
+    let reads = demand2 .roundTrip byBound 0 11280 rows-G [] held in
     accepted≢refused (sym (reads .header) ∙ ap readOutcome (append-nil _) ∙ e)
+
+-- an error, stored with rows by windows (made)
+pub stored-with-an-error : (kind : ℕ) (rows : List (Span ℕ)) → Storable byWindows kind 1 rows → ⊥
+stored-with-an-error kind rows s = by (s .made)
+  where
+    by : (byWindows ≡ byBound) ⊎ ((byWindows ≡ byWindows) × (_≡_ {A = ℕ} 1 0)) → ⊥
+    by (inl is) = omega arith
+    by (inr (is, none)) = omega arith
 
 -- a byte after the last row changed, and the slot accepted (layout)
 abbrev changed-slot : List ℕ
-changed-slot = set (slotBytes 0 11280 rows-G) 600 1
+changed-slot = set (slotBytes byBound 0 11280 rows-G) 600 1
 
-changed-bytes : (bytesOnly changed-slot ≡ true) × (slotKind changed-slot ≡ 0) × (slotError changed-slot ≡ 11280)
+changed-bytes : (bytesOnly changed-slot ≡ true) × (slotMark changed-slot ≡ byBound)
+    × (slotKind changed-slot ≡ 0) × (slotError changed-slot ≡ 11280)
     × (slotRows changed-slot ≡ rows-G) × (getD (take slotLength changed-slot) 600 0 ≡ 1)
-    × (getD (slotBytes 0 11280 rows-G) 600 0 ≡ 0)
-unfolding bytesOnly slotBytes usedBytes rowsBytes rowBytes bytesOf slotLength slotKind slotError slotCount slotRows slotRow rowPlace numberAt listFrom
-changed-bytes = (refl, refl, refl, refl, refl, refl)
+    × (getD (slotBytes byBound 0 11280 rows-G) 600 0 ≡ 0)
+unfolding bytesOnly slotBytes usedBytes rowsBytes rowBytes bytesOf slotLength slotMark slotKind slotError slotCount slotRows slotRow rowPlace numberAt listFrom
+changed-bytes = (refl, refl, refl, refl, refl, refl, refl)
 
 pub byte-changed : (header : Header) → readOutcome changed-slot ≡ accepted header → ⊥
 unfolding readOutcome readRows
 byte-changed header e =
-    let (bytes, kind, error, rows, changed, zero-there) = changed-bytes in
+    let (bytes, mark, kind, error, rows, changed, zero-there) = changed-bytes in
     let (all, given) = outcome-accepted (slotQuestions changed-slot) _ header e in
     let laid = demand2 .layout changed-slot header (bytes-only changed-slot bytes) e in
-    let same : slotBytes (header .kind) (header .error) (readRows changed-slot) ≡ slotBytes 0 11280 rows-G =
-    ap₂ (λ (h : Header) r. slotBytes (h .kind) (h .error) r) given (all-lent (slotQuestions changed-slot) _ _ all)
-    ∙ rw (kind, error, rows) in
+    let same : slotBytes (header .mark) (header .kind) (header .error) (readRows changed-slot)
+    ≡ slotBytes byBound 0 11280 rows-G =
+    ap₂ (λ (h : Header) r. slotBytes (h .mark) (h .kind) (h .error) r) given (all-lent (slotQuestions changed-slot) _ _ all)
+    ∙ rw (mark, kind, error, rows) in
     omega (arith, ap (λ (l : List ℕ). getD l 600 0) (laid ∙ same))

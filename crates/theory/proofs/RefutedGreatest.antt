@@ -14,9 +14,9 @@ use Rattle.model.specs.Log.{recordLength, recordBytes, recordAt, recordCount, r
 use Rattle.model.specs.Blocks.{segmentAt, gap, lastGap, block, empty, totalsOf, add, totals, nearest, valueFor, rowValue, squared, errorWith, blockError, rowOf}
 use Rattle.model.specs.Split.{Reduced, rowsOf, errorOf, gapBelow, mostRows}
 use Rattle.model.specs.Reductions.{IsReduction, reductionError}
-use Rattle.model.specs.Slot.{slotLength, rowBytes, rowsBytes, usedBytes, slotBytes, rowPlace, slotKind, slotCount, slotError, slotRow, slotRows, valueIn}
+use Rattle.model.specs.Slot.{slotLength, byBound, rowBytes, rowsBytes, usedBytes, slotBytes, rowPlace, slotMark, slotKind, slotCount, slotError, slotRow, slotRows, valueIn}
 use Rattle.model.specs.Questions.{refused, accepted, ask, askRoom, outcome, lent, each, marked, kindKnown, groupKnown, spanQuestions, recordQuestions, mostRecords, logQuestions}
-use Rattle.model.specs.Questions.{follows, inOrder, rowKnown, rowQuestions, zeros, tailZero, slotQuestions}
+use Rattle.model.specs.Questions.{follows, inOrder, rowKnown, rowQuestions, zeros, tailZero, errorKnown, headerMarked, slotQuestions}
 use Rattle.model.specs.Calls.{Counts, logSegments, readOutcome, readRows}
 use Rattle.model.specs.Guarantee.{Choices, LeastOfFewest, BestOfLimit, BestOfShare}
 use Rattle.model.specs.Fitting.{FitsFor}
@@ -120,12 +120,13 @@ rows-fall-short never =
     omega arith
 
 -- a slot of these rows (neverShort)
-short-read : readRows (slotBytes greatestKind 24087 short-G3) ≡ short-G3
-unfolding listFrom numberAt bytesOf slotLength rowBytes rowsBytes usedBytes slotBytes rowPlace slotKind slotCount slotError slotRow slotRows ask lent each marked askRoom kindKnown groupKnown mostRows follows inOrder rowKnown rowQuestions zeros tailZero slotQuestions readRows
+short-read : readRows (slotBytes byBound greatestKind 24087 short-G3) ≡ short-G3
+unfolding listFrom numberAt bytesOf slotLength rowBytes rowsBytes usedBytes slotBytes rowPlace slotMark slotKind slotCount slotError slotRow slotRows ask lent each marked askRoom kindKnown groupKnown mostRows follows inOrder rowKnown rowQuestions zeros tailZero errorKnown headerMarked slotQuestions readRows
 short-read = refl
 
 pub falls-short : (counts : Counts)
-    → QueryPromise (query greatestKind (Rows 3)) (bytes log-G) (replicate 768 0) (accepted counts) (slotBytes greatestKind 24087 short-G3)
+    → QueryPromise (query greatestKind (Rows 3)) (bytes log-G) (replicate 768 0) (accepted counts)
+    (slotBytes byBound greatestKind 24087 short-G3)
     → ⊥
 falls-short counts p = rows-fall-short (rw short-read at (p .neverShort counts refl))
 
@@ -165,7 +166,7 @@ earlier-logged = outcome-accepted (logQuestions (bytes loads)) (tt {0}) (tt {0})
 
 -- refused, whatever stands behind it (stillRead)
 pub earlier-slot-refused : (rest : List ℕ) (number index : ℕ)
-    → readOutcome (slotBytes greatestKind 1 (span 0 0 1 0 ∷ []) ++ rest) ≡ refused number index → ⊥
+    → readOutcome (slotBytes byBound greatestKind 1 (span 0 0 1 0 ∷ []) ++ rest) ≡ refused number index → ⊥
 unfolding kindKnown mostRows
 earlier-slot-refused rest number index e =
     let found : logSegments greatestKind (bytes loads) ≡ loads = worked-cases .2 .1 .1 .1 .1 .0 .0 in

@@ -2,8 +2,9 @@
 -- width in bytes, and one for log records and rows, which differ only in their mark and the width of their value.
 -- Assumes nothing.
 use Prim.Native.Nat.{ℕ, zero, suc, _+_, _-_, _*_, _/_, _%_, _^_, _≤_, _<_}
-use mathlib.Core.Bool.{true, _&&_}
+use mathlib.Core.Bool.{true, _&&_, _||_, and-or-distrib-left}
 use mathlib.Core.List.{List, [], _∷_, _++_, append-assoc, List·Memᴰ, List·Memᴰ·head, List·Memᴰ·tail}
+use mathlib.Core.Logic.{_⊎_, inl, inr}
 use mathlib.Core.Path.{_≡_, refl, sym, ap, ap₂, _∙_}
 use native.Mathlib.Omega.{arith}
 use native.Mathlib.Nat.{add-zero, zero-add, pow-suc}
@@ -17,9 +18,9 @@ use Rattle.model.specs.Spans.{Span, nowhere}
 use Rattle.model.specs.Log.{recordLength, recordBytes, recordAt}
 use Rattle.model.specs.Blocks.{segmentAt}
 use Rattle.model.specs.Split.{mostRows}
-use Rattle.model.specs.Slot.{slotLength, rowBytes, rowsBytes, usedBytes, slotBytes, rowPlace, slotKind, slotCount, slotError, slotRow, slotRows}
+use Rattle.model.specs.Slot.{slotLength, byBound, byWindows, rowBytes, rowsBytes, usedBytes, slotBytes, rowPlace, slotMark, slotKind, slotCount, slotError, slotRow, slotRows}
 use Rattle.model.specs.Questions.{accepted, ask, askRoom, marked, each, kindKnown, groupKnown, inOrder, mostValue, rowKnown}
-use Rattle.model.specs.Questions.{rowQuestions, zeros, tailZero, slotQuestions}
+use Rattle.model.specs.Questions.{rowQuestions, zeros, tailZero, errorKnown, headerMarked, slotQuestions}
 use Rattle.model.specs.Calls.{Header, readOutcome, readRows}
 use Rattle.model.specs.Demands.{AllPass, Bytes, Storable, Reads}
 use Rattle.theory.proofs.Tests.{and-true, true-and}
@@ -201,14 +202,14 @@ length-rowsBytes [] = refl
 length-rowsBytes (r ∷ rows) =
     omega (arith, length-append (rowBytes r) (rowsBytes rows), length-rowBytes r, length-rowsBytes rows)
 
-module _ (kind error : ℕ) (rows : List (Span ℕ)) where
+module _ (mark kind error : ℕ) (rows : List (Span ℕ)) where
   -- the length of header and rows
-  pub length-usedBytes : length (usedBytes kind error rows) ≡ 12 + 11 * length rows
+  pub length-usedBytes : length (usedBytes mark kind error rows) ≡ 12 + 11 * length rows
   unfolding usedBytes bytesOf
   length-usedBytes = omega (arith, length-rowsBytes rows)
 
   -- a slot's length
-  pub length-slotBytes : length rows ≤ mostRows → length (slotBytes kind error rows) ≡ slotLength
+  pub length-slotBytes : length rows ≤ mostRows → length (slotBytes mark kind error rows) ≡ slotLength
   unfolding slotBytes slotLength mostRows
   length-slotBytes few = simp (length-append, length-replicate, length-usedBytes) (omega arith)
 
@@ -243,8 +244,8 @@ known-fits r known fits =
     record { first = omega arith; last = fits; value = omega arith }
 
 -- a slot that begins with the bytes written
-module _ (kind error : ℕ) (rows : List (Span ℕ)) (slot tail : List ℕ) (storable : Storable kind error rows)
-    (written : slot ≡ usedBytes kind error rows ++ tail) where
+module _ (mark kind error : ℕ) (rows : List (Span ℕ)) (slot tail : List ℕ) (storable : Storable mark kind error rows)
+    (written : slot ≡ usedBytes mark kind error rows ++ tail) where
   -- the row count stands in the header
   count-read : slotCount slot ≡ length rows
   unfolding usedBytes slotCount
@@ -261,6 +262,20 @@ module _ (kind error : ℕ) (rows : List (Span ℕ)) (slot tail : List ℕ) (sto
   error-read =
       number-read 8 error 4 slot _ (storable .error64)
       (ap (λ (l : List ℕ). drop 4 l) written ∙ append-assoc (bytesOf 8 error) (rowsBytes rows) _)
+
+  -- and the second byte of the mark
+  second-read : slotMark slot ≡ mark
+  unfolding usedBytes slotMark
+  second-read = byte-at 1 mark slot _ (ap (λ (l : List ℕ). drop 1 l) written)
+
+  -- the mark is one of the two, and by windows there is no error
+  header-known : (headerMarked slot ≡ true) × (errorKnown slot ≡ true)
+  unfolding usedBytes headerMarked marked errorKnown slotMark
+  header-known = by (storable .made)
+    where
+      by : (mark ≡ byBound) ⊎ ((mark ≡ byWindows) × (error ≡ 0)) → (headerMarked slot ≡ true) × (errorKnown slot ≡ true)
+      by (inl is) = rw (byte-at 0 0x50 slot _ written, second-read, is) (refl, refl)
+      by (inr (is, none)) = rw (byte-at 0 0x50 slot _ written, second-read, is, error-read, none) (refl, refl)
 
   -- the bytes from row i on, and at the end those behind the rows
   rows-at : (i : ℕ) → i ≤ length rows → drop (rowPlace i) slot ≡ rowsBytes (drop i rows) ++ tail
@@ -306,7 +321,12 @@ module _ (kind error : ℕ) (rows : List (Span ℕ)) (slot tail : List ℕ) (sto
   unfolding slotLength
   room rest blank =
       let zeros-count = length-replicate {A = ℕ} (768 - (12 + 11 * length rows)) 0 in
-      omega (arith, simp length-append at (ap length written), simp length-append at (ap length blank), length-usedBytes kind error rows)
+      omega (
+        arith,
+        simp length-append at (ap length written),
+        simp length-append at (ap length blank),
+        length-usedBytes mark kind error rows,
+      )
 
   -- and its tail is zero
   end : (rest : List ℕ) → tail ≡ replicate (slotLength - (12 + 11 * length rows)) 0 ++ rest → tailZero slot ≡ true
@@ -319,39 +339,38 @@ module _ (kind error : ℕ) (rows : List (Span ℕ)) (slot tail : List ℕ) (sto
   -- so it passes every question
   slot-passes : (rest : List ℕ) → tail ≡ replicate (slotLength - (12 + 11 * length rows)) 0 ++ rest
       → AllPass (slotQuestions slot)
-  unfolding slotQuestions ask askRoom usedBytes marked
+  unfolding slotQuestions ask askRoom
   slot-passes rest blank =
-      let mark = ap (λ (l : List ℕ). drop 1 l) written in
       let known : kindKnown (slotKind slot) ≡ true = rw kind-read (storable .known) in
       let few : slotCount slot ≤ mostRows = rw count-read (storable .count) in
       all-cons _ _ (le-leb slotLength (length slot) (room rest blank))
-      (all-cons _ _ (true-and _ _ (eq-eqb _ _ (byte-at 0 0x50 slot _ written)) (eq-eqb _ _ (byte-at 1 0x48 slot _ mark)))
+      (all-cons _ _ (header-known .0)
       (all-cons _ _ known
       (all-cons _ _ (le-leb _ _ few)
       (all-append _ _ (all-each _ _ _ (λ i a b. row-passes i (omega (arith, count-read))))
-      (all-cons _ _ (end rest blank) all-nil)))))
+      (all-cons _ _ (true-and _ _ (end rest blank) (header-known .1)) all-nil)))))
 
   -- a slot that passes is read to the rows written
-  slot-reads : AllPass (slotQuestions slot) → Reads slot kind error rows
+  slot-reads : AllPass (slotQuestions slot) → Reads slot mark kind error rows
   unfolding readOutcome readRows slotRows segmentAt
   slot-reads all =
       record {
-        header = all-outcome (slotQuestions slot) _ all ∙ rw (kind-read, error-read, count-read);
+        header = all-outcome (slotQuestions slot) _ all ∙ rw (second-read, kind-read, error-read, count-read);
         body =
             all-lent (slotQuestions slot) (slotRows slot) [] all
             ∙ rw count-read (listFrom-of nowhere 0 (slotRow slot) rows (λ i lt. rw (zero-add i) (row-read i lt)));
       }
 
 -- what is written into a slot is read back
-pub round-trip : (kind error : ℕ) (rows : List (Span ℕ)) (rest : List ℕ) → Storable kind error rows
-    → Reads (slotBytes kind error rows ++ rest) kind error rows
+pub round-trip : (mark kind error : ℕ) (rows : List (Span ℕ)) (rest : List ℕ) → Storable mark kind error rows
+    → Reads (slotBytes mark kind error rows ++ rest) mark kind error rows
 unfolding slotBytes
-round-trip kind error rows rest storable =
-    let tail = replicate (slotLength - length (usedBytes kind error rows)) 0 ++ rest in
-    let written = append-assoc (usedBytes kind error rows) _ rest in
-    slot-reads kind error rows (slotBytes kind error rows ++ rest) tail storable written
-    (slot-passes kind error rows (slotBytes kind error rows ++ rest) tail storable written rest
-    (rw (length-usedBytes kind error rows)))
+round-trip mark kind error rows rest storable =
+    let tail = replicate (slotLength - length (usedBytes mark kind error rows)) 0 ++ rest in
+    let written = append-assoc (usedBytes mark kind error rows) _ rest in
+    slot-reads mark kind error rows (slotBytes mark kind error rows ++ rest) tail storable written
+    (slot-passes mark kind error rows (slotBytes mark kind error rows ++ rest) tail storable written rest
+    (rw (length-usedBytes mark kind error rows)))
 
 -- ---- an accepted slot is its own layout
 
@@ -378,7 +397,7 @@ module _ (slot : List ℕ) (all : AllPass (slotQuestions slot)) where
   few-passed = leb-true (slotCount slot) 64 (all-head _ _ (all-tail _ _ (all-tail _ _ (all-tail _ _ all))))
 
   -- it passes the questions behind 13
-  slot-tail : AllPass (each (rowQuestions slot) 0 (slotCount slot) ++ (ask 17 0 (tailZero slot) ∷ []))
+  slot-tail : AllPass (each (rowQuestions slot) 0 (slotCount slot) ++ (ask 17 0 (tailZero slot && errorKnown slot) ∷ []))
   unfolding slotQuestions
   slot-tail = all-tail _ _ (all-tail _ _ (all-tail _ _ (all-tail _ _ all)))
 
@@ -390,22 +409,29 @@ module _ (slot : List ℕ) (all : AllPass (slotQuestions slot)) where
   -- its tail is zero
   pub end-passed : tailZero slot ≡ true
   unfolding ask
-  end-passed = all-head _ _ (all-right (each (rowQuestions slot) 0 (slotCount slot)) _ slot-tail)
+  end-passed =
+      and-true (tailZero slot) (errorKnown slot)
+      (all-head _ _ (all-right (each (rowQuestions slot) 0 (slotCount slot)) _ slot-tail))
+      .0
 
 -- piece by piece, its bytes are those of what it says
 module _ (slot : List ℕ) (small : Bytes slot) (all : AllPass (slotQuestions slot)) where
   -- the header
-  header-written : take 12 slot ≡ 0x50 ∷ 0x48 ∷ slotKind slot ∷ slotCount slot ∷ bytesOf 8 (slotError slot)
-  unfolding slotQuestions ask marked slotKind slotCount slotError
+  header-written : take 12 slot ≡ 0x50 ∷ slotMark slot ∷ slotKind slot ∷ slotCount slot ∷ bytesOf 8 (slotError slot)
+  unfolding slotQuestions ask headerMarked marked slotMark slotKind slotCount slotError
   header-written =
       let space = room-passed slot all in
-      let mark = and-true (eqb (getD slot 0 0) 0x50) (eqb (getD slot 1 0) 0x48) (all-head _ _ (all-tail _ _ all)) in
+      let first = eqb (getD slot 0 0) 0x50 in
+      let bound = eqb (getD slot 1 0) byBound in
+      let windows = eqb (getD slot 1 0) byWindows in
+      let mark =
+      and-true first (bound || windows) (and-or-distrib-left first bound windows ∙ all-head _ _ (all-tail _ _ all)) in
       take-more 4 8 0 slot
       ∙ ap₂ {C = List ℕ} _++_
       (take-next 3 0 slot (omega arith)
       ∙ ap₂ {C = List ℕ} _∷_ (eqb-true _ _ (mark .0))
       (take-next 2 1 slot (omega arith)
-      ∙ ap₂ {C = List ℕ} _∷_ (eqb-true _ _ (mark .1))
+      ∙ ap (λ (l : List ℕ). getD slot 1 0 ∷ l)
       (take-next 1 2 slot (omega arith)
       ∙ ap (λ (l : List ℕ). getD slot 2 0 ∷ l) (take-next 0 3 slot (omega arith)))))
       (number-written 8 4 slot small (omega arith))
@@ -433,7 +459,8 @@ module _ (slot : List ℕ) (small : Bytes slot) (all : AllPass (slotQuestions sl
       (ap (λ (p : ℕ). take (11 * count) (drop p slot)) next ∙ rows-written count (suc i) (omega arith)))
 
   -- header and rows
-  used-written : take (rowPlace (slotCount slot)) slot ≡ usedBytes (slotKind slot) (slotError slot) (slotRows slot)
+  used-written : take (rowPlace (slotCount slot)) slot
+      ≡ usedBytes (slotMark slot) (slotKind slot) (slotError slot) (slotRows slot)
   unfolding usedBytes slotRows rowPlace
   used-written =
       take-add 12 (11 * slotCount slot) slot
@@ -441,15 +468,15 @@ module _ (slot : List ℕ) (small : Bytes slot) (all : AllPass (slotQuestions sl
       ∙ rw (length-listFrom 0 (slotCount slot) (slotRow slot))
 
   -- the whole slot
-  slot-written : take slotLength slot ≡ slotBytes (slotKind slot) (slotError slot) (slotRows slot)
+  slot-written : take slotLength slot ≡ slotBytes (slotMark slot) (slotKind slot) (slotError slot) (slotRows slot)
   unfolding slotBytes slotLength slotRows rowPlace tailZero
   slot-written =
       let space = room-passed slot all in
       let few = few-passed slot all in
       let place = rowPlace (slotCount slot) in
       let whole : 768 ≡ place + (768 - place) = omega arith in
-      let used : length (usedBytes (slotKind slot) (slotError slot) (slotRows slot)) ≡ place =
-      rw (length-usedBytes _ _ (slotRows slot), length-listFrom 0 (slotCount slot) (slotRow slot)) in
+      let used : length (usedBytes (slotMark slot) (slotKind slot) (slotError slot) (slotRows slot)) ≡ place =
+      rw (length-usedBytes _ _ _ (slotRows slot), length-listFrom 0 (slotCount slot) (slotRow slot)) in
       ap (λ (k : ℕ). take k slot) whole
       ∙ take-add place (768 - place) slot
       ∙ ap₂ {C = List ℕ} _++_ used-written (zeros-written (768 - place) place slot (omega arith) (end-passed slot all))
@@ -457,7 +484,7 @@ module _ (slot : List ℕ) (small : Bytes slot) (all : AllPass (slotQuestions sl
 
 -- an accepted slot is the layout of what is read from it
 pub layout : (slot : List ℕ) (header : Header) → Bytes slot → readOutcome slot ≡ accepted header
-    → take slotLength slot ≡ slotBytes (header .kind) (header .error) (readRows slot)
+    → take slotLength slot ≡ slotBytes (header .mark) (header .kind) (header .error) (readRows slot)
 unfolding readOutcome readRows
 layout slot header small e =
     let r = outcome-accepted (slotQuestions slot) _ header e in

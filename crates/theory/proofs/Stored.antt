@@ -71,11 +71,11 @@ module _ (rule : ℕ) (seg : ℕ → Span ℕ) (n : ℕ) (P : Span ℕ → Type 
 -- ---- the rows of a reduction of segments
 
 -- what a slot's row can hold
-abbrev Held : Span ℕ → Type 0
+abbrev pub Held : Span ℕ → Type 0
 Held r = (r .group < groupCount) × (r .first ≤ r .last) × (r .last < frameCount) × (r .value ≤ mostValue)
 
 -- such a row passes the tests of a slot's rows
-held-known : (r : Span ℕ) → Held r → (rowKnown r ≡ true) × (r .last < 2 ^ 16)
+pub held-known : (r : Span ℕ) → Held r → (rowKnown r ≡ true) × (r .last < 2 ^ 16)
 unfolding rowKnown groupKnown groupCount frameCount
 held-known r (group, order, last, small) = (
   true-and _ _ (true-and _ _ (le-leb (r .group) 7 (omega arith)) (le-leb _ _ order)) (le-leb _ _ small),
@@ -83,7 +83,7 @@ held-known r (group, order, last, small) = (
 )
 
 -- a span behind another follows it
-earlier-follows : (s t : Span ℕ) → Earlier s t → follows t s ≡ true
+pub earlier-follows : (s t : Span ℕ) → Earlier s t → follows t s ≡ true
 unfolding follows
 earlier-follows s t (inl lt) = rw (lt-ltb _ _ lt)
 earlier-follows s t (inr (same, lt)) = rw (eq-eqb _ _ (sym same), lt-ltb _ _ lt) (or-true (ltb (s .group) (t .group)))

@@ -10,6 +10,7 @@
 #![forbid(unsafe_code)]
 
 mod plain;
+mod windows;
 
 use pacer::{c, Kind};
 use std::hint::black_box;
@@ -345,6 +346,7 @@ fn read_answer(slot: &[u8; 768]) -> c::ReadAnswer {
         question: answer.question,
         index: answer.index,
         kind: answer.kind,
+        mark: answer.mark,
         rows: answer.rows,
         error: answer.error,
     };
@@ -378,35 +380,215 @@ fn boot_line(report: &mut Report, rows: &str, slots: &[[u8; 768]]) {
     );
 }
 
-/// Read and lookup on a slot of so many rows.
-fn slot_lines(report: &mut Report, wanted: usize) {
-    let slot = slot_of(wanted);
-    let rows = read_answer(&slot).rows;
+/// The windows of a query.
+enum Windows {
+    /// Length and start.
+    Beats(u16, u16),
+    /// First and last frames.
+    Scenes(Vec<u16>, Vec<u16>),
+}
+
+impl Windows {
+    fn library(&self, kind: u8, log: &[u8], slot: &mut [u8]) -> c::QueryAnswer {
+        match self {
+            Windows::Beats(length, start) => c::query_beats(kind, *length, *start, log, slot),
+            Windows::Scenes(firsts, lasts) => c::query_scenes(kind, firsts, lasts, log, slot),
+        }
+    }
+
+    fn plain(&self, kind: u8, log: &[u8], slot: &mut [u8]) -> plain::QueryAnswer {
+        match self {
+            Windows::Beats(length, start) => windows::query_beats(kind, *length, *start, log, slot),
+            Windows::Scenes(firsts, lasts) => windows::query_scenes(kind, firsts, lasts, log, slot),
+        }
+    }
+}
+
+/// Some data for windows: what it is called, the windows, and the log.
+struct Spans {
+    name: &'static str,
+    windows: Windows,
+    log: Vec<u8>,
+}
+
+/// So many frames of a group, one record.
+fn stretch(group: usize, first: usize, frames: usize, load: usize) -> Vec<u8> {
+    record(group as u8, first, first + frames - 1, load)
+}
+
+/// The data for windows.
+fn spans() -> Vec<Spans> {
+    let scenes = || {
+        let firsts: Vec<u16> = (0..16).map(|i| 4000 * i).collect();
+        let lasts = firsts.iter().map(|first| first + 3000).collect();
+        Windows::Scenes(firsts, lasts)
+    };
+    let spans = |name, windows, log| Spans { name, windows, log };
+    // Records of some length at places that look random, in so many groups.
+    let scattered = |count: usize, groups: usize, most: usize| -> Vec<u8> {
+        (0..count)
+            .flat_map(|i| {
+                let first = noise(i) % (65_536 - most);
+                let frames = 1 + noise(1000 + i) % most;
+                stretch(i % groups, first, frames, noise(2000 + i) % 1001)
+            })
+            .collect()
+    };
+    vec![
+        spans("beats of 1, no record", Windows::Beats(1, 0), Vec::new()),
+        spans(
+            "beats of 1, last frame",
+            Windows::Beats(1, 0),
+            record(7, 65_535, 65_535, 9),
+        ),
+        // 8 groups, each 8 frames far from the next group's.
+        spans(
+            "beats of 1, 8 groups",
+            Windows::Beats(1, 0),
+            (0..8)
+                .flat_map(|g| stretch(g, 8000 * g + 100, 8, 100 + g))
+                .collect(),
+        ),
+        // Twice 64 records of one frame, all over the frames.
+        spans(
+            "beats of 1, 8 groups, scattered",
+            Windows::Beats(1, 0),
+            (0..128)
+                .flat_map(|i| {
+                    let frame = 1000 * (i / 2) + noise(i / 2) % 1000;
+                    stretch(i / 2 % 8, frame, 1, noise(i) % 1001)
+                })
+                .collect(),
+        ),
+        // Too many rows at once, and only at the last record.
+        spans(
+            "beats of 1, all frames",
+            Windows::Beats(1, 0),
+            (0..8).flat_map(|g| stretch(g, 0, 65_536, 9)).collect(),
+        ),
+        spans(
+            "beats of 1, one row too many",
+            Windows::Beats(1, 0),
+            [stretch(0, 0, 64, 9), stretch(7, 65_535, 1, 9)].concat(),
+        ),
+        // 8 groups by 8 windows.
+        spans(
+            "beats of 600, 8 groups",
+            Windows::Beats(600, 0),
+            (0..128)
+                .flat_map(|i| {
+                    let first = 600 * (i / 8 / 2) + noise(i) % 300;
+                    stretch(i % 8, first, 300, noise(1000 + i) % 1001)
+                })
+                .collect(),
+        ),
+        spans(
+            "beats of 1024, 1 group",
+            Windows::Beats(1024, 0),
+            scattered(128, 1, 3000),
+        ),
+        // Each scene with two records of each of 4 groups, and of one group.
+        spans(
+            "16 scenes, 4 groups",
+            scenes(),
+            (0..128)
+                .flat_map(|i| {
+                    let first = 4000 * (i / 8) + noise(i) % 2000;
+                    stretch(i % 4, first, 1500, noise(1000 + i) % 1001)
+                })
+                .collect(),
+        ),
+        spans("16 scenes, 1 group", scenes(), scattered(128, 1, 3000)),
+        spans("16 scenes, 8 records", scenes(), scattered(8, 4, 3000)),
+    ]
+}
+
+/// A query by windows of one kind.
+fn windows_line(report: &mut Report, spans: &Spans, kind: Kind) {
+    let Spans { name, windows, log } = spans;
+    let (mut slot, mut other) = ([0; 768], [0; 768]);
+    let answer = windows.library(kind.0, log, &mut slot);
+    let found = plain::QueryAnswer {
+        question: answer.question,
+        index: answer.index,
+        rows: answer.rows,
+        error: answer.error,
+        weighed: answer.weighed,
+    };
+    assert_eq!(
+        found,
+        windows.plain(black_box(kind.0), log, &mut other),
+        "{name}"
+    );
+    assert_eq!(slot, other, "{name}");
+    let kinds = ["sum", "count", "least", "greatest", "mean"];
+    let outcome = if answer.question == 0 {
+        answer.rows.to_string()
+    } else {
+        format!("no {}", answer.question)
+    };
+    let input = || black_box((kind.0, windows, log));
     report.line(
-        "read",
-        &rows.to_string(),
+        name,
+        &format!(
+            "{:>4} {:>8} {outcome:>5}",
+            log.len() / 9,
+            kinds[usize::from(kind.0)]
+        ),
         &mut [
             &mut || {
-                black_box(c::read(black_box(&slot)));
+                let (kind, windows, log) = input();
+                black_box(windows.library(kind, log, &mut slot));
             },
             &mut || {
-                black_box(plain::read(black_box(&slot)));
+                let (kind, windows, log) = input();
+                black_box(windows.plain(kind, log, &mut other));
             },
         ],
     );
-    let last = pacer::row_at(&slot, rows.saturating_sub(1))
+}
+
+/// The slot of so many rows by windows, at most 64.
+fn windows_slot_of(wanted: usize) -> [u8; 768] {
+    let mut slot = [0; 768];
+    let log = if wanted == 0 {
+        Vec::new()
+    } else {
+        stretch(0, 0, wanted, 9)
+    };
+    let answer = c::query_beats(Kind::SUM.0, 1, 0, &log, &mut slot);
+    assert_eq!((answer.question, answer.rows), (0, wanted));
+    slot
+}
+
+/// Read and lookup on a slot.
+fn slot_lines(report: &mut Report, by: &str, slot: &[u8; 768]) {
+    let rows = read_answer(slot).rows;
+    report.line(
+        &format!("read{by}"),
+        &rows.to_string(),
+        &mut [
+            &mut || {
+                black_box(c::read(black_box(slot)));
+            },
+            &mut || {
+                black_box(plain::read(black_box(slot)));
+            },
+        ],
+    );
+    let last = pacer::row_at(slot, rows.saturating_sub(1))
         .expect("an accepted slot")
         .map_or(0, |row| row.last);
     for (what, frame) in [("last row", last), ("uncovered", 65_535)] {
-        let answer = c::lookup(&slot, 0, frame);
+        let answer = c::lookup(slot, 0, frame);
         let value = (answer.covered == 1).then_some(answer.value);
         assert_eq!(
             (answer.question, answer.index, value),
-            plain::lookup(&slot, black_box(0), frame)
+            plain::lookup(slot, black_box(0), frame)
         );
-        let asked = || black_box((&slot, 0, frame));
+        let asked = || black_box((slot, 0, frame));
         report.line(
-            &format!("lookup, {what}"),
+            &format!("lookup{by}, {what}"),
             &rows.to_string(),
             &mut [
                 &mut || {
@@ -446,7 +628,8 @@ fn main() {
     println!("Times are medians; a ratio is library / plain version, the median over the rounds, below 1 if");
     println!("the library is faster. Buffers (log, slot, list) are reused from call to call and not cleared.");
     println!("Answers, slot bytes and weighed cuts are compared first and are equal. A limit below the count");
-    println!("of runs, which is refused, has no row.");
+    println!("of runs, which is refused, has no row. Rows by windows have one plain version, which goes from");
+    println!("window to window over those that no record meets; 'no 20' is the refusal of more than 64 rows.");
 
     head("n bound          rows   weighed", 2);
     for shape in &SHAPES {
@@ -489,10 +672,20 @@ fn main() {
         }
     }
 
+    head("records     kind  rows", 1);
+    for spans in spans() {
+        for kind in [Kind::SUM, Kind::GREATEST, Kind::MEAN] {
+            windows_line(&mut report, &spans, kind);
+        }
+    }
+
     head("rows", 1);
     let sizes = [0, 6, 20, 64];
     for wanted in sizes {
-        slot_lines(&mut report, wanted);
+        slot_lines(&mut report, "", &slot_of(wanted));
+    }
+    for wanted in sizes {
+        slot_lines(&mut report, " by windows", &windows_slot_of(wanted));
     }
     for wanted in sizes {
         boot_line(&mut report, &wanted.to_string(), &[slot_of(wanted); SLOTS]);

@@ -8,10 +8,16 @@
 //! works it out whenever a candidate asks for it, [`Kept`] works each out once per query.
 
 /// The greatest kind.
-const MOST_KIND: u8 = 4;
+pub const MOST_KIND: u8 = 4;
 
 /// The kind of the greatest load, whose rows hold the greatest value of their block.
 const GREATEST: u8 = 3;
+
+/// The second byte of a slot's header: rows by a bound.
+const BY_BOUND: u8 = 0x48;
+
+/// The second byte of a slot's header: rows by windows, with error 0.
+pub const BY_WINDOWS: u8 = 0x53;
 
 /// A query's answer, with question 0 if it is accepted.
 #[derive(Clone, Copy, Debug, Default, PartialEq, Eq)]
@@ -29,12 +35,13 @@ pub struct ReadAnswer {
     pub question: u8,
     pub index: usize,
     pub kind: u8,
+    pub mark: u8,
     pub rows: usize,
     pub error: u64,
 }
 
 /// A refusal: question and index.
-type No = (u8, usize);
+pub type No = (u8, usize);
 
 #[derive(Clone, Copy, Default)]
 pub struct Segment {
@@ -87,12 +94,12 @@ impl Totals {
     }
 }
 
-fn two(bytes: &[u8], at: usize) -> u16 {
+pub fn two(bytes: &[u8], at: usize) -> u16 {
     u16::from_le_bytes([bytes[at], bytes[at + 1]])
 }
 
 /// Questions 4 to 9.
-fn ask_log(log: &[u8]) -> Result<(), No> {
+pub fn ask_log(log: &[u8]) -> Result<(), No> {
     if !log.len().is_multiple_of(9) {
         return Err((4, 0));
     }
@@ -401,7 +408,7 @@ fn try_query(
     let error = if rows == 0 { 0 } else { errors[rows] };
 
     slot.fill(0);
-    slot[..4].copy_from_slice(&[0x50, 0x48, kind, rows as u8]);
+    slot[..4].copy_from_slice(&[0x50, BY_BOUND, kind, rows as u8]);
     slot[4..12].copy_from_slice(&error.to_le_bytes());
     let mut end = n;
     for k in (1..=rows).rev() {
@@ -429,7 +436,7 @@ fn try_query(
 /// Questions 1 and 11 to 17; gives the rows' bytes.
 fn ask_slot(slot: &[u8]) -> Result<(&[u8; 768], &[u8]), No> {
     let slot = slot.first_chunk::<768>().ok_or((1, 0))?;
-    if slot[..2] != [0x50, 0x48] {
+    if slot[0] != 0x50 || (slot[1] != BY_BOUND && slot[1] != BY_WINDOWS) {
         return Err((11, 0));
     }
     if slot[2] > MOST_KIND {
@@ -459,6 +466,9 @@ fn ask_slot(slot: &[u8]) -> Result<(&[u8; 768], &[u8]), No> {
     if rest.iter().fold(0, |all, byte| all | byte) != 0 {
         return Err((17, 0));
     }
+    if slot[1] == BY_WINDOWS && slot[4..12] != [0; 8] {
+        return Err((17, 0));
+    }
     Ok((slot, rows))
 }
 
@@ -472,6 +482,7 @@ pub fn read(slot: &[u8]) -> ReadAnswer {
                 question: 0,
                 index: 0,
                 kind: slot[2],
+                mark: slot[1],
                 rows: usize::from(slot[3]),
                 error: u64::from_le_bytes(error),
             }

@@ -2,17 +2,32 @@
 
 use crate::inputs;
 use crate::random::Random;
+use crate::windows;
 use pacer::c;
 use reference::{Contents, No, Stretch};
 use std::fmt::Debug;
 
-/// How often each question was the first 'no', and 0 for accepted, over all calls.
+/// How often each question was the first 'no', and at place 0 how often there was none.
+pub type ByQuestion = [u64; 21];
+
+/// What was answered, over all calls.
 #[derive(Clone, Default)]
 pub struct Seen {
-    pub query: [u64; 18],
-    pub segments: [u64; 18],
-    pub slot: [u64; 18],
-    pub record: [u64; 18],
+    pub query: ByQuestion,
+    pub beats: ByQuestion,
+    pub scenes: ByQuestion,
+    pub segments: ByQuestion,
+    /// Slots, and those under the header of windows among them.
+    pub slot: ByQuestion,
+    pub windows_slot: ByQuestion,
+    pub record: ByQuestion,
+    /// Slots under the header of windows with nothing wrong but their error.
+    pub with_error: u64,
+    /// Rows of beats that are cut off at the last frame, queries by windows with just 64 rows, and
+    /// those refused for just 65.
+    pub cut_off: u64,
+    pub full: u64,
+    pub one_too_many: u64,
     /// Slots of the greatest load by the rule of before, with other rows than now.
     pub earlier: u64,
     /// Segments, rows and cuts of the largest case.
@@ -25,8 +40,11 @@ impl Seen {
     pub fn join(&mut self, other: &Seen) {
         let pairs = [
             (&mut self.query, &other.query),
+            (&mut self.beats, &other.beats),
+            (&mut self.scenes, &other.scenes),
             (&mut self.segments, &other.segments),
             (&mut self.slot, &other.slot),
+            (&mut self.windows_slot, &other.windows_slot),
             (&mut self.record, &other.record),
         ];
         for (one, two) in pairs {
@@ -34,6 +52,10 @@ impl Seen {
                 *a += b;
             }
         }
+        self.with_error += other.with_error;
+        self.cut_off += other.cut_off;
+        self.full += other.full;
+        self.one_too_many += other.one_too_many;
         self.earlier += other.earlier;
         self.most_segments = self.most_segments.max(other.most_segments);
         self.most_rows = self.most_rows.max(other.most_rows);
@@ -53,7 +75,7 @@ pub fn same<T: PartialEq + Debug>(what: &str, found: T, expected: T) -> Result<(
 }
 
 /// Tells the first place where two lists differ.
-fn same_places<T: PartialEq + Debug>(
+pub fn same_places<T: PartialEq + Debug>(
     what: &str,
     found: &[T],
     expected: &[T],
@@ -102,7 +124,7 @@ fn row_of(stretch: &Stretch) -> c::Row {
 }
 
 /// The question and index of an outcome, 0 and 0 if it is accepted.
-fn number<T>(outcome: &Result<T, No>) -> (u8, usize) {
+pub fn number<T>(outcome: &Result<T, No>) -> (u8, usize) {
     match outcome {
         Ok(_) => (0, 0),
         Err(no) => (no.question, no.index),
@@ -139,7 +161,10 @@ pub fn run(random: &mut Random, seen: &mut Seen) -> Result<(), String> {
     if kind == reference::GREATEST && reference::bounded(rule, bound) {
         earlier_slot(random, &expected, rule, bound, seen)?;
     }
-    write_record(random, seen)
+    write_record(random, seen)?;
+    let windows = inputs::windows(random, &records);
+    let length = inputs::length(random, 768);
+    windows::run(random, kind, &windows, &log, length, seen)
 }
 
 /// The calls on a slot of the greatest load as it was written before its rows held their greatest
@@ -155,7 +180,12 @@ fn earlier_slot(
     let Some(earlier) = by_rule_of(pacer::Kind::SUM.0) else {
         return Ok(());
     };
-    let slot = reference::layout(reference::GREATEST, earlier.error, &earlier.rows);
+    let slot = reference::layout(
+        reference::BY_BOUND,
+        reference::GREATEST,
+        earlier.error,
+        &earlier.rows,
+    );
     let read = reference::read(&slot).map(|contents| contents.rows);
     same("the reference", read, Ok(earlier.rows.clone()))?;
     let now = by_rule_of(reference::GREATEST).map(|reduction| reduction.rows);
@@ -275,18 +305,20 @@ fn query(
                     weighed: reduction.weighed,
                 },
             )?;
-            let mut after = reference::layout(kind, reduction.error, &reduction.rows);
+            let rows = &reduction.rows;
+            let mut after = reference::layout(reference::BY_BOUND, kind, reduction.error, rows);
             after.extend(&before[768..]);
             same_places("slot", &slot, &after)?;
 
             // The library reads its own slot back to the same kind, error and rows.
             let profile = pacer::read(&slot).map_err(|refusal| refusal.to_string())?;
+            same("header", profile.header(), pacer::Header::ByBound)?;
             same("kind read back", profile.kind().0, kind)?;
             same("error read back", profile.error(), reduction.error)?;
-            same_places("rows read back", &stretches(&profile), &reduction.rows)?;
+            same_places("rows read back", &stretches(&profile), rows)?;
             let most = most_weighed(kind, rule, bound, log, &answer);
             same("cuts within the bound", answer.weighed <= most, true)?;
-            seen.most_rows = seen.most_rows.max(reduction.rows.len());
+            seen.most_rows = seen.most_rows.max(rows.len());
             seen.most_weighed = seen.most_weighed.max(reduction.weighed);
         }
         Err(_) => {
@@ -342,6 +374,7 @@ fn read_rows(
                     question: 0,
                     index: 0,
                     kind: contents.kind,
+                    mark: contents.mark,
                     rows: contents.rows.len(),
                     error: contents.error,
                 },
@@ -362,6 +395,7 @@ fn read_rows(
                     question: no.question,
                     index: no.index,
                     kind: 0,
+                    mark: 0,
                     rows: 0,
                     error: 0,
                 },
@@ -371,14 +405,29 @@ fn read_rows(
     }
 }
 
+/// Whether a slot under the header of windows is accepted once its error is 0.
+fn only_error(slot: &[u8]) -> bool {
+    let mut without = slot.to_vec();
+    without[4..12].fill(0);
+    reference::read(&without).is_ok()
+}
+
 /// The calls on a slot: read, read_rows, row_at for every number, and some lookups.
 pub fn slot_calls(random: &mut Random, slot: &[u8], seen: &mut Seen) -> Result<(), String> {
     let expected = reference::read(slot);
     let (question, index) = number(&expected);
+    let by_windows = slot.starts_with(&[0x50, reference::BY_WINDOWS]);
     seen.slot[usize::from(question)] += 1;
-    let (kind, error, rows) = match &expected {
-        Ok(contents) => (contents.kind, contents.error, contents.rows.clone()),
-        Err(_) => (0, 0, Vec::new()),
+    seen.windows_slot[usize::from(question)] += u64::from(by_windows);
+    seen.with_error += u64::from(by_windows && question == 17 && only_error(slot));
+    let (kind, mark, error, rows) = match &expected {
+        Ok(contents) => (
+            contents.kind,
+            contents.mark,
+            contents.error,
+            contents.rows.clone(),
+        ),
+        Err(_) => (0, 0, 0, Vec::new()),
     };
     same(
         "read",
@@ -387,6 +436,7 @@ pub fn slot_calls(random: &mut Random, slot: &[u8], seen: &mut Seen) -> Result<(
             question,
             index,
             kind,
+            mark,
             rows: rows.len(),
             error,
         },
@@ -395,7 +445,11 @@ pub fn slot_calls(random: &mut Random, slot: &[u8], seen: &mut Seen) -> Result<(
         // A slot that the library accepts is byte for byte the layout of what it reads.
         let profile = pacer::read(slot).map_err(|refusal| refusal.to_string())?;
         let read = stretches(&profile);
-        let layout = reference::layout(profile.kind().0, profile.error(), &read);
+        let mark = match profile.header() {
+            pacer::Header::ByBound => reference::BY_BOUND,
+            pacer::Header::ByWindows => reference::BY_WINDOWS,
+        };
+        let layout = reference::layout(mark, profile.kind().0, profile.error(), &read);
         same_places("layout", &layout, &slot[..768])?;
         same_places("rows", &read, &rows)?;
     }
@@ -443,6 +497,7 @@ pub fn slot_calls(random: &mut Random, slot: &[u8], seen: &mut Seen) -> Result<(
         let expected = reference::lookup(slot, group, frame);
         let (question, index) = number(&expected);
         seen.slot[usize::from(question)] += u64::from(question == 7);
+        seen.windows_slot[usize::from(question)] += u64::from(by_windows && question == 7);
         let value = expected.unwrap_or(None);
         same(
             "lookup",

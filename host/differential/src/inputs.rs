@@ -1,6 +1,7 @@
 //! Random logs, queries and slots.
 
 use crate::random::Random;
+use crate::windows::Windows;
 use reference::{Stretch, Table};
 
 /// A record: group, first, last, load.
@@ -289,6 +290,74 @@ pub fn bound(random: &mut Random, segments: &[Stretch], kind: u8) -> (u8, u16) {
     }
 }
 
+/// A frame near the beginning or the end of a record, or anywhere.
+fn edge(random: &mut Random, records: &[Fields]) -> u16 {
+    if records.is_empty() || random.percent(10) {
+        let anywhere = random.next() as u16;
+        return random.pick(&[0, 1, 32_768, 65_534, 65_535, anywhere]);
+    }
+    let (_, first, last, _) = random.pick(records);
+    let frame = u64::from(random.pick(&[first, last])) + random.range(0, 4);
+    frame.saturating_sub(2).min(65_535) as u16
+}
+
+/// Beats or scenes for some records, often ones that begin or end where a record does, sometimes
+/// with a fault. Beats of one or two frames are rare: they take the independent implementation
+/// long.
+pub fn windows(random: &mut Random, records: &[Fields]) -> Windows {
+    if random.percent(45) {
+        let start = if random.percent(30) {
+            0
+        } else {
+            edge(random, records)
+        };
+        let length = match random.range(0, 99) {
+            0..=3 => 0,
+            4..=5 => 1,
+            6..=7 => 2,
+            8..=69 => random.range(3, 20),
+            70..=84 => random.range(20, 600),
+            85..=92 => random.range(600, 65_535),
+            _ => random.pick(&[32_767, 32_768, 65_534, 65_535]),
+        };
+        return Windows::Beats(length as u16, start);
+    }
+    let count = match random.range(0, 99) {
+        0..=3 => 0,
+        4..=8 => 16,
+        9..=12 => 17,
+        13..=15 => random.range(18, 40),
+        _ => random.range(1, 9),
+    };
+    // First and last frames in turns, in rising order, some of them equal.
+    let mut frames: Vec<u16> = (0..2 * count).map(|_| edge(random, records)).collect();
+    frames.sort_unstable();
+    let mut firsts: Vec<u16> = frames.iter().copied().step_by(2).collect();
+    let mut lasts: Vec<u16> = frames.iter().copied().skip(1).step_by(2).collect();
+    if random.percent(80) {
+        // Where a scene begins with the last frame of the one before, it begins one frame later,
+        // and so on; without room for that the list stays wrong.
+        for i in 1..firsts.len() {
+            if firsts[i] <= lasts[i - 1] {
+                firsts[i] = lasts[i - 1].saturating_add(1);
+                lasts[i] = lasts[i].max(firsts[i]);
+            }
+        }
+    }
+    if count > 0 && random.percent(20) {
+        let at = random.range(0, count - 1) as usize;
+        match random.range(0, 5) {
+            0 => firsts[at] = lasts[at].wrapping_add(1),
+            1 => lasts[at] = lasts[at].wrapping_add(1),
+            2 => firsts.swap(0, at),
+            3 => firsts.truncate(at),
+            4 => lasts.truncate(at),
+            _ => lasts.push(65_535),
+        }
+    }
+    Windows::Scenes(firsts, lasts)
+}
+
 /// A length near the least allowed one.
 pub fn length(random: &mut Random, least: u64) -> usize {
     let length = match random.range(0, 99) {
@@ -349,9 +418,15 @@ pub fn slot(random: &mut Random) -> Vec<u8> {
             }
         }
     }
-    let error = random.pick(&[0, 1, 11_280, u64::MAX]).wrapping_mul(3);
     let kind = random.range(0, u64::from(reference::MOST_KIND)) as u8;
-    reference::layout(kind, error, &rows)
+    let mark = random.pick(&[reference::BY_BOUND, reference::BY_WINDOWS]);
+    // Under the header of windows most often none.
+    let error = if mark == reference::BY_WINDOWS && random.percent(80) {
+        0
+    } else {
+        random.pick(&[0, 1, 11_280, 1 << 56, u64::MAX])
+    };
+    reference::layout(mark, kind, error, &rows)
 }
 
 /// Makes some bytes of a slot wrong, or leaves it as it is.
@@ -362,7 +437,15 @@ pub fn damage_slot(random: &mut Random, slot: &mut [u8]) {
     for _ in 0..random.range(1, 2) {
         let rows = usize::from(slot[3]).min(64);
         let end = 12 + 11 * rows;
-        match random.range(0, 9) {
+        match random.range(0, 10) {
+            0 if random.percent(50) => {
+                // The other header.
+                slot[1] = if slot[1] == reference::BY_BOUND {
+                    reference::BY_WINDOWS
+                } else {
+                    reference::BY_BOUND
+                };
+            }
             0 => slot[random.range(0, 1) as usize] ^= 1 << random.range(0, 7),
             1 => slot[2] = random.pick(&[0, 3, 4, 5, 255]),
             2 => slot[3] = random.pick(&[0, 63, 64, 65, 255]),

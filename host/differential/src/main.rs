@@ -4,9 +4,10 @@
 //!
 //! Runs CASES random cases (100,000 if no number is given), a fifth as many small logs (at least
 //! 20,000) against every fitting list, some logs of many frames against a table over their
-//! frames, and for every row count the slots with one bit of the tail set. The seed is fixed
-//! unless one is given, and is printed. A difference is printed with the words that run its case
-//! alone, and the status is then 1.
+//! frames, for every row count the slots with one bit of the tail set, fixed logs with windows at
+//! the edges of what is allowed, and as many small logs as above by windows gone through frame by
+//! frame. The seed is fixed unless one is given, and is printed. A difference is printed with the
+//! words that run its case alone, and the status is then 1.
 
 #![forbid(unsafe_code)]
 
@@ -15,13 +16,15 @@ mod demand;
 mod inputs;
 mod random;
 mod tails;
+mod windows;
 
-use compare::Seen;
+use compare::{ByQuestion, Seen};
 use demand::Tried;
 use random::Random;
 use std::process::ExitCode;
 use std::sync::atomic::{AtomicU64, Ordering};
 use std::time::Instant;
+use windows::Gone;
 
 const SEED: u64 = 20_240_601;
 const CASES: u64 = 100_000;
@@ -31,6 +34,8 @@ const LONG_LOGS: u64 = 400;
 const ROW_COUNTS: u64 = 65;
 /// The bits of their tails: 756 bytes behind the header, less 11 for each row.
 const TAIL_BITS: u64 = 8 * (ROW_COUNTS * 756 - 11 * (64 * 65 / 2));
+/// The bits of the error that are wrong under the header of windows.
+const ERROR_BITS: u64 = ROW_COUNTS * 64;
 
 /// The parts of a run.
 #[derive(Clone, Copy, PartialEq)]
@@ -39,10 +44,19 @@ enum Part {
     Small,
     Many,
     Tails,
+    Edges,
+    Frames,
 }
 
 impl Part {
-    const ALL: [Part; 4] = [Part::Random, Part::Small, Part::Many, Part::Tails];
+    const ALL: [Part; 6] = [
+        Part::Random,
+        Part::Small,
+        Part::Many,
+        Part::Tails,
+        Part::Edges,
+        Part::Frames,
+    ];
 
     fn name(self) -> &'static str {
         match self {
@@ -50,6 +64,8 @@ impl Part {
             Part::Small => "small",
             Part::Many => "many",
             Part::Tails => "tails",
+            Part::Edges => "edges",
+            Part::Frames => "frames",
         }
     }
 
@@ -60,6 +76,8 @@ impl Part {
             Part::Small => demand::run_small(&mut random, &mut counts.tried),
             Part::Many => demand::run_many(&mut random, &mut counts.tried),
             Part::Tails => tails::run(&mut random, case, &mut counts.seen),
+            Part::Edges => windows::run_edges(&mut random, case, &mut counts.seen),
+            Part::Frames => windows::run_frames(&mut random, &mut counts.gone),
         }
     }
 }
@@ -68,6 +86,7 @@ impl Part {
 struct Counts {
     seen: Seen,
     tried: Tried,
+    gone: Gone,
 }
 
 /// Runs all cases of a part on every processor. Gives the counts, or the first case that differs
@@ -108,6 +127,8 @@ fn run_all(part: Part, seed: u64, cases: u64) -> Result<Counts, (u64, String)> {
                 all.seen.join(&counts.seen);
                 all.tried.queries += counts.tried.queries;
                 all.tried.refused += counts.tried.refused;
+                all.gone.queries += counts.gone.queries;
+                all.gone.rows += counts.gone.rows;
             }
             Err(difference) => {
                 if first.as_ref().is_none_or(|(case, _)| difference.0 < *case) {
@@ -122,7 +143,7 @@ fn run_all(part: Part, seed: u64, cases: u64) -> Result<Counts, (u64, String)> {
     }
 }
 
-fn print_counts(call: &str, counts: &[u64; 18]) {
+fn print_counts(call: &str, counts: &ByQuestion) {
     let refused: Vec<String> = counts
         .iter()
         .enumerate()
@@ -137,26 +158,70 @@ fn print_counts(call: &str, counts: &[u64; 18]) {
     );
 }
 
+/// The questions of the calls by windows and of the slots under their header.
+const BY_WINDOWS: [(&str, &[usize]); 3] = [
+    ("beats", &[0, 1, 2, 4, 5, 6, 7, 8, 9, 18, 20]),
+    ("scenes", &[0, 1, 2, 4, 5, 6, 7, 8, 9, 19, 20]),
+    ("slot by windows", &[0, 7, 12, 13, 14, 15, 16, 17]),
+];
+
+/// What no case gave, of the calls by windows: questions, and what else the cases must have.
+fn unreached_by_windows(seen: &Seen) -> Vec<String> {
+    let counts = [&seen.beats, &seen.scenes, &seen.windows_slot];
+    let mut missing = Vec::new();
+    for ((call, questions), counts) in BY_WINDOWS.iter().zip(counts) {
+        missing.extend(zeros(call, counts, questions));
+    }
+    let features = [
+        ("a window cut off", seen.cut_off),
+        ("64 rows by windows", seen.full),
+        ("65 rows by windows", seen.one_too_many),
+        ("a slot by windows with an error", seen.with_error),
+    ];
+    for (what, count) in features {
+        if count == 0 {
+            missing.push(what.to_string());
+        }
+    }
+    missing
+}
+
+/// The questions of a call that no case failed.
+fn zeros(call: &str, counts: &ByQuestion, questions: &[usize]) -> Vec<String> {
+    questions
+        .iter()
+        .filter(|question| counts[**question] == 0)
+        .map(|question| format!("{call} {question}"))
+        .collect()
+}
+
 /// The questions that a call asks but that no case failed, and what else no case had.
 fn unreached(seen: &Seen) -> Vec<String> {
-    let calls: [(&str, &[u64; 18], &[usize]); 4] = [
+    let calls: [(&str, &ByQuestion, &[usize]); 4] = [
         ("query", &seen.query, &[0, 1, 2, 3, 4, 5, 6, 7, 8, 9, 10]),
         ("segments", &seen.segments, &[0, 1, 2, 4, 5, 6, 7, 8, 9]),
         ("slot", &seen.slot, &[0, 1, 7, 11, 12, 13, 14, 15, 16, 17]),
         ("record", &seen.record, &[0, 1, 7, 8, 9]),
     ];
-    let mut missing = Vec::new();
+    let mut missing = unreached_by_windows(seen);
     if seen.earlier == 0 {
         missing.push("a slot by the rule of before".to_string());
     }
     for (call, counts, questions) in calls {
-        for question in questions {
-            if counts[*question] == 0 {
-                missing.push(format!("{call} {question}"));
-            }
-        }
+        missing.extend(zeros(call, counts, questions));
     }
     missing
+}
+
+/// Prints what queries by windows and their slots gave.
+fn print_windows(seen: &Seen) {
+    print_counts("by beats", &seen.beats);
+    print_counts("by scenes", &seen.scenes);
+    print_counts("read and lookup by windows", &seen.windows_slot);
+    println!(
+        "  windows cut off {}, with 64 rows {}, refused for 65 rows {}, slots with an error {}",
+        seen.cut_off, seen.full, seen.one_too_many, seen.with_error
+    );
 }
 
 struct Arguments {
@@ -189,7 +254,7 @@ fn arguments() -> Option<Arguments> {
 fn main() -> ExitCode {
     let Some(arguments) = arguments() else {
         eprintln!(
-            "usage: differential [CASES] [--seed SEED] [--only random|small|many|tails CASE]"
+            "usage: differential [CASES] [--seed SEED] [--only random|small|many|tails|edges|frames CASE]"
         );
         return ExitCode::from(2);
     };
@@ -210,9 +275,10 @@ fn main() -> ExitCode {
     for part in Part::ALL {
         let cases = match part {
             Part::Random => arguments.cases,
-            Part::Small => SMALL_LOGS.max(arguments.cases / 5),
+            Part::Small | Part::Frames => SMALL_LOGS.max(arguments.cases / 5),
             Part::Many => LONG_LOGS.max(arguments.cases / 250),
             Part::Tails => ROW_COUNTS,
+            Part::Edges => windows::edges(),
         };
         let start = Instant::now();
         let counts = match run_all(part, seed, cases) {
@@ -235,6 +301,7 @@ fn main() -> ExitCode {
                 print_counts("segments", &seen.segments);
                 print_counts("read and lookup", &seen.slot);
                 print_counts("write_record", &seen.record);
+                print_windows(seen);
                 println!(
                     "  most segments {}, rows {}, cuts weighed {}",
                     seen.most_segments, seen.most_rows, seen.most_weighed
@@ -260,13 +327,30 @@ fn main() -> ExitCode {
             Part::Tails => {
                 let (accepted, refused) = (counts.seen.slot[0], counts.seen.slot[17]);
                 println!(
-                    "{cases} row counts, {refused} slots with one bit of the tail set: no difference ({seconds:.1} s)"
+                    "{cases} row counts, {refused} slots with one bit of the tail or the error set: no difference ({seconds:.1} s)"
                 );
-                if (accepted, refused) != (ROW_COUNTS, TAIL_BITS) {
-                    println!("expected {ROW_COUNTS} slots with a tail of zeros, and {TAIL_BITS} with a bit set");
+                // Under each of the two headers.
+                let bits = 2 * TAIL_BITS + ERROR_BITS;
+                if (accepted, refused) != (2 * ROW_COUNTS, bits) {
+                    println!("expected {} slots with a tail of zeros, and {bits} with a bit set", 2 * ROW_COUNTS);
                     return ExitCode::FAILURE;
                 }
             }
+            Part::Edges => {
+                let seen = &counts.seen;
+                let queries: u64 = seen.beats.iter().chain(&seen.scenes).sum();
+                println!("{cases} logs with windows at the edges, {queries} queries: no difference ({seconds:.1} s)");
+                print_windows(seen);
+                let missing = unreached_by_windows(seen);
+                if !missing.is_empty() {
+                    println!("no case gave: {}", missing.join(", "));
+                    return ExitCode::FAILURE;
+                }
+            }
+            Part::Frames => println!(
+                "{cases} small logs by windows gone through frame by frame, {} queries, {} rows: no difference ({seconds:.1} s)",
+                counts.gone.queries, counts.gone.rows
+            ),
         }
     }
     println!("differential: ok");

@@ -10,6 +10,11 @@ pub const ROWS: u8 = 0x52;
 /// The bound is an error share.
 pub const SHARE: u8 = 0x45;
 
+/// The mark of a slot's header: the rows were made by a bound.
+pub const BY_BOUND: u8 = 0x48;
+/// The mark of a slot's header: the rows were made by windows.
+pub const BY_WINDOWS: u8 = 0x53;
+
 /// The answer of [`write_record`].
 #[repr(C)]
 #[derive(Clone, Copy, Debug, PartialEq, Eq)]
@@ -27,7 +32,7 @@ pub struct SegmentsAnswer {
     pub count: usize,
 }
 
-/// The answer of [`query`].
+/// The answer of [`query`], [`query_beats`] and [`query_scenes`].
 #[repr(C)]
 #[derive(Clone, Copy, Debug, PartialEq, Eq)]
 pub struct QueryAnswer {
@@ -38,13 +43,15 @@ pub struct QueryAnswer {
     pub weighed: u64,
 }
 
-/// The answer of [`read`] and [`read_rows`].
+/// The answer of [`read`] and [`read_rows`]; `mark` is [`BY_BOUND`] or [`BY_WINDOWS`], and 0 in a
+/// refusal.
 #[repr(C)]
 #[derive(Clone, Copy, Debug, PartialEq, Eq)]
 pub struct ReadAnswer {
     pub question: u8,
     pub index: usize,
     pub kind: u8,
+    pub mark: u8,
     pub rows: usize,
     pub error: u64,
 }
@@ -103,7 +110,9 @@ pub struct Row {
     pub first: u16,
     /// The last frame, included.
     pub last: u16,
-    /// The whole number nearest to the mean of the frames' values, the lower one at a half.
+    /// By a bound: the whole number nearest to the mean of the frames' values, the lower one at a
+    /// half, and of kind 3 the greatest of them. By windows: the kind's value over the records of
+    /// the group that contain at least one of the frames.
     pub value: u32,
 }
 
@@ -123,6 +132,26 @@ mod declared {
             kind: u8,
             rule: u8,
             bound: u16,
+            log: *const u8,
+            log_length: usize,
+            slot: *mut u8,
+            slot_length: usize,
+        ) -> QueryAnswer;
+        pub fn pacer_query_beats(
+            kind: u8,
+            length: u16,
+            start: u16,
+            log: *const u8,
+            log_length: usize,
+            slot: *mut u8,
+            slot_length: usize,
+        ) -> QueryAnswer;
+        pub fn pacer_query_scenes(
+            kind: u8,
+            firsts: *const u16,
+            first_count: usize,
+            lasts: *const u16,
+            last_count: usize,
             log: *const u8,
             log_length: usize,
             slot: *mut u8,
@@ -172,6 +201,50 @@ pub fn query(kind: u8, rule: u8, bound: u16, log: &[u8], slot: &mut [u8]) -> Que
             kind,
             rule,
             bound,
+            log.as_ptr(),
+            log.len(),
+            slot.as_mut_ptr(),
+            slot.len(),
+        )
+    }
+}
+
+/// Calls `pacer_query_beats`.
+#[inline]
+pub fn query_beats(kind: u8, length: u16, start: u16, log: &[u8], slot: &mut [u8]) -> QueryAnswer {
+    // SAFETY: pointers and lengths are those of a shared and an exclusive slice, which do not
+    // overlap.
+    unsafe {
+        declared::pacer_query_beats(
+            kind,
+            length,
+            start,
+            log.as_ptr(),
+            log.len(),
+            slot.as_mut_ptr(),
+            slot.len(),
+        )
+    }
+}
+
+/// Calls `pacer_query_scenes`. Lists of unequal length are question 19's 'no'.
+#[inline]
+pub fn query_scenes(
+    kind: u8,
+    firsts: &[u16],
+    lasts: &[u16],
+    log: &[u8],
+    slot: &mut [u8],
+) -> QueryAnswer {
+    // SAFETY: pointers and lengths are those of shared slices and an exclusive one, which none of
+    // them overlaps.
+    unsafe {
+        declared::pacer_query_scenes(
+            kind,
+            firsts.as_ptr(),
+            firsts.len(),
+            lasts.as_ptr(),
+            lasts.len(),
             log.as_ptr(),
             log.len(),
             slot.as_mut_ptr(),

@@ -1,8 +1,9 @@
 //! Load profiles for the pacer.
 //!
 //! A log of loads over frames is reduced to at most 64 rows, the best that so few rows can give,
-//! and the rows are written into a slot of 768 bytes that the pacer reads. The work is done by a
-//! proved library; this crate gives its C interface the types that a Rust program expects.
+//! and the rows are written into a slot of 768 bytes that the pacer reads. The rows can also be
+//! those of windows: every so many frames, or of a list of scenes. The work is done by a proved
+//! library; this crate gives its C interface the types that a Rust program expects.
 //!
 //! ```
 //! use pacer::{Bound, Kind, Query, Record, Row, SLOT_BYTES};
@@ -65,8 +66,11 @@ pub const SEGMENT_PLACES: usize = 255;
 pub const SLOT_BYTES: usize = 768;
 /// The least number of places in a list lent for rows, and the greatest number of rows in a slot.
 pub const ROWS: usize = 64;
+/// The greatest number of scenes in a query.
+pub const SCENES: usize = 16;
 
-/// What a frame's value is, over the records of its group that contain it.
+/// What a frame's value is, over the records of its group that contain it; and the value of a
+/// window's row, over those that contain at least one of its frames.
 ///
 /// Any number can be asked for; one above 4 is question 2's 'no'.
 #[derive(Clone, Copy, Debug, PartialEq, Eq, PartialOrd, Ord, Hash)]
@@ -81,9 +85,9 @@ impl Kind {
     pub const LEAST: Kind = Kind(2);
     /// The greatest load.
     ///
-    /// A row of this kind holds the greatest value in it, and its error is taken from that, so
-    /// that no frame needs more than its row says. Rows of every other kind hold the whole number
-    /// nearest to the mean.
+    /// By a bound, a row of this kind holds the greatest value in it, and its error is taken from
+    /// that, so that no frame needs more than its row says. Rows of every other kind hold the
+    /// whole number nearest to the mean.
     ///
     /// ```
     /// use pacer::{Bound, Kind, Query, Record};
@@ -139,23 +143,78 @@ pub struct Record {
     pub load: u16,
 }
 
-/// How far a log is reduced.
+/// Some consecutive frames that get a row of their own, whatever the loads in them are.
 #[derive(Clone, Copy, Debug, PartialEq, Eq, Hash)]
-pub enum Bound {
+pub struct Scene {
+    /// The first frame.
+    pub first: u16,
+    /// The last frame, included; not below the first.
+    pub last: u16,
+}
+
+impl Scene {
+    /// The scene from a first frame to a last one, both included.
+    pub const fn new(first: u16, last: u16) -> Self {
+        Scene { first, last }
+    }
+}
+
+/// What a query's rows are made by: a bound, to which the log's segments are merged, or windows.
+///
+/// Each window gives each group a row with the window's own first and last frame and the kind's
+/// value over all records of the group that contain at least one of its frames, each counted once.
+/// A window that no record of a group meets gives that group no row.
+///
+/// ```
+/// use pacer::{Kind, Query, Record, Row, Rule};
+///
+/// # fn main() -> Result<(), pacer::Refusal> {
+/// // Two seconds at 60 frames each, and a peak over their border.
+/// let log = pacer::log(&[
+///     Record { group: 0, first: 0, last: 119, load: 200 },
+///     Record { group: 0, first: 58, last: 61, load: 900 },
+/// ])?;
+/// let mut slot = [0; pacer::SLOT_BYTES];
+/// let query = Query { kind: Kind::GREATEST, bound: Rule::Every { length: 60, start: 0 } };
+/// pacer::query(query, &log, &mut slot)?;
+/// assert_eq!(
+///     pacer::read(&slot)?.rows(),
+///     [
+///         Row { group: 0, first: 0, last: 59, value: 900 },
+///         Row { group: 0, first: 60, last: 119, value: 900 },
+///     ]
+/// );
+/// # Ok(())
+/// # }
+/// ```
+#[derive(Clone, Copy, Debug, PartialEq, Eq, Hash)]
+pub enum Rule<'a> {
     /// A row limit, 0 to 64: the least error that so many rows or fewer can have.
     Rows(u16),
     /// An error share, 0 to 1,000 thousandths: the fewest rows whose error is at most this share
     /// of the least error at the fewest possible rows.
     Share(u16),
+    /// Beats: windows of so many frames, one after the other. Frames before the start lie in none.
+    Every {
+        /// The frames of a window, at least 1; the last window is cut off at frame 65,535.
+        length: u16,
+        /// The first frame of the first window.
+        start: u16,
+    },
+    /// 1 to 16 scenes, each wholly after the one before. They may touch, and need not.
+    Scenes(&'a [Scene]),
 }
+
+/// The rule of a query by its other name, for queries by a bound.
+pub type Bound<'a> = Rule<'a>;
 
 /// What is asked of a log.
 #[derive(Clone, Copy, Debug, PartialEq, Eq, Hash)]
-pub struct Query {
-    /// The aggregate over the records that contain a frame.
+pub struct Query<'a> {
+    /// The aggregate over the records that contain a frame, or meet a window.
     pub kind: Kind,
-    /// The row limit or the error share.
-    pub bound: Bound,
+    /// The row limit or the error share; or the windows, which stand in place of a bound.
+    pub bound: Rule<'a>,
 }
 
 /// What a query wrote into the slot.
@@ -163,9 +222,9 @@ pub struct Query {
 pub struct Reduction {
     /// The count of rows.
     pub rows: usize,
-    /// The squared error of the rows, summed frame by frame.
+    /// The squared error of the rows, summed frame by frame; 0 for rows by windows.
     pub error: u64,
-    /// The number of cuts that the search weighed.
+    /// The number of cuts that the search weighed; 0 for rows by windows.
     pub weighed: u64,
 }
 
@@ -182,7 +241,7 @@ pub struct Reduction {
 /// ```
 #[derive(Clone, Copy, Debug, PartialEq, Eq, Hash)]
 pub struct Refusal {
-    /// The question's number, 1 to 17.
+    /// The question's number, 1 to 20.
     pub question: u8,
     /// The index from 0 of the record or row concerned, for questions 6 to 9 and 14 to 16; 0 for
     /// the others.
@@ -194,7 +253,7 @@ impl Refusal {
     ///
     /// ```
     /// let refusal = pacer::read(&[0; 768]).unwrap_err();
-    /// assert_eq!(refusal.words(), "Header mark right?");
+    /// assert_eq!(refusal.words(), "Header mark right (50 48 or 50 53)?");
     /// ```
     pub fn words(&self) -> &'static str {
         match self.question {
@@ -208,13 +267,16 @@ impl Refusal {
             8 => "Is first at most last?",
             9 => "Is the load at most 1,000?",
             10 => "Is c at least m; with a share, do 64 rows or fewer meet it?",
-            11 => "Header mark right?",
+            11 => "Header mark right (50 48 or 50 53)?",
             12 => "Slot's kind 0 to 4?",
             13 => "Row count at most 64?",
             14 => "Row mark right?",
             15 => "Row's group 0 to 7, first at most last, value at most 128,000?",
             16 => "Is its group above the previous row's, or equal with first above the previous last?",
-            17 => "Are all bytes after the last row, to 768, zero?",
+            17 => "Are all bytes after the last row, to 768, zero, and with the header 50 53 the error too?",
+            18 => "Is the length of the beats at least 1?",
+            19 => "Are there 1 to 16 scenes, as many firsts as lasts, each first at most its last, and each scene wholly after the one before?",
+            20 => "Are there at most 64 rows?",
             _ => "unknown question",
         }
     }
@@ -323,7 +385,7 @@ pub fn segments<'a>(
 /// Reduces a log to the rows that the query asks for and writes them into the first 768 bytes of
 /// a slot; the other bytes keep their content.
 ///
-/// Asks questions 1 to 10.
+/// Asks questions 1 to 10. By windows it asks 18 or 19 in place of 3, and 20 in place of 10.
 ///
 /// ```
 /// use pacer::{Bound, Kind, Query, Record};
@@ -343,12 +405,55 @@ pub fn segments<'a>(
 /// assert_eq!(pacer::query(query, &log, &mut slot).unwrap_err().question, 10);
 /// # Ok::<(), pacer::Refusal>(())
 /// ```
+///
+/// Rows by scenes; the frames between them lie in no row:
+///
+/// ```
+/// use pacer::{Header, Kind, Query, Record, Row, Rule, Scene};
+///
+/// let log = pacer::log(&[
+///     Record { group: 2, first: 0, last: 900, load: 150 },
+///     Record { group: 2, first: 890, last: 1_300, load: 400 },
+/// ])?;
+/// let scenes = [Scene::new(0, 599), Scene::new(600, 999), Scene::new(2_000, 2_499)];
+/// let query = Query { kind: Kind::MEAN, bound: Rule::Scenes(&scenes) };
+/// let mut slot = [0; pacer::SLOT_BYTES];
+/// assert_eq!(pacer::query(query, &log, &mut slot)?.rows, 2);
+///
+/// let profile = pacer::read(&slot)?;
+/// assert_eq!(profile.header(), Header::ByWindows);
+/// assert_eq!(
+///     profile.rows(),
+///     [
+///         Row { group: 2, first: 0, last: 599, value: 15_000 },
+///         Row { group: 2, first: 600, last: 999, value: 27_500 },
+///     ]
+/// );
+/// assert_eq!(profile.lookup(2, 2_000)?, None);
+///
+/// // Scenes in the wrong order.
+/// let query = Query { bound: Rule::Scenes(&[scenes[1], scenes[0]]), ..query };
+/// assert_eq!(pacer::query(query, &log, &mut slot).unwrap_err().question, 19);
+/// # Ok::<(), pacer::Refusal>(())
+/// ```
 pub fn query(query: Query, log: &[u8], slot: &mut [u8]) -> Result<Reduction, Refusal> {
-    let (rule, bound) = match query.bound {
-        Bound::Rows(limit) => (c::ROWS, limit),
-        Bound::Share(share) => (c::SHARE, share),
+    let kind = query.kind.0;
+    let answer = match query.bound {
+        Rule::Rows(limit) => c::query(kind, c::ROWS, limit, log, slot),
+        Rule::Share(share) => c::query(kind, c::SHARE, share, log, slot),
+        Rule::Every { length, start } => c::query_beats(kind, length, start, log, slot),
+        Rule::Scenes(scenes) => {
+            // One scene too many is as wrong a count as several.
+            let mut firsts = [0; SCENES + 1];
+            let mut lasts = [0; SCENES + 1];
+            let count = scenes.len().min(SCENES + 1);
+            for (place, scene) in scenes[..count].iter().enumerate() {
+                firsts[place] = scene.first;
+                lasts[place] = scene.last;
+            }
+            c::query_scenes(kind, &firsts[..count], &lasts[..count], log, slot)
+        }
     };
-    let answer = c::query(query.kind.0, rule, bound, log, slot);
     Refusal::from_answer(answer.question, answer.index)?;
     Ok(Reduction {
         rows: answer.rows,
@@ -359,8 +464,8 @@ pub fn query(query: Query, log: &[u8], slot: &mut [u8]) -> Result<Reduction, Ref
 
 /// Reads a slot with all of its rows.
 ///
-/// Asks questions 1 and 11 to 17. Every error number is accepted. Whether the slot belongs to
-/// some log is the caller's care.
+/// Asks questions 1 and 11 to 17. Every error number is accepted, under the header of windows 0
+/// alone. Whether the slot belongs to some log is the caller's care.
 ///
 /// ```
 /// let mut slot = [0; pacer::SLOT_BYTES];
@@ -390,6 +495,11 @@ pub fn read(slot: &[u8]) -> Result<Profile<'_>, Refusal> {
     Refusal::from_answer(answer.question, answer.index)?;
     Ok(Profile {
         slot,
+        header: if answer.mark == c::BY_WINDOWS {
+            Header::ByWindows
+        } else {
+            Header::ByBound
+        },
         kind: Kind(answer.kind),
         error: answer.error,
         list,
@@ -397,10 +507,20 @@ pub fn read(slot: &[u8]) -> Result<Profile<'_>, Refusal> {
     })
 }
 
+/// Which header a slot has: what its rows were made by.
+#[derive(Clone, Copy, Debug, PartialEq, Eq, Hash)]
+pub enum Header {
+    /// `50 48`: a row limit or an error share.
+    ByBound,
+    /// `50 53`: beats or scenes. The error is 0.
+    ByWindows,
+}
+
 /// An accepted slot, with the rows read from it.
 #[derive(Clone, Copy, Debug)]
 pub struct Profile<'a> {
     slot: &'a [u8],
+    header: Header,
     kind: Kind,
     error: u64,
     list: [Row; ROWS],
@@ -408,6 +528,26 @@ pub struct Profile<'a> {
 }
 
 impl Profile<'_> {
+    /// The header that the slot has.
+    ///
+    /// ```
+    /// use pacer::Header;
+    ///
+    /// let mut slot = [0; pacer::SLOT_BYTES];
+    /// slot[..2].copy_from_slice(&[0x50, 0x48]);
+    /// assert_eq!(pacer::read(&slot)?.header(), Header::ByBound);
+    /// slot[1] = 0x53;
+    /// assert_eq!(pacer::read(&slot)?.header(), Header::ByWindows);
+    ///
+    /// // Rows by windows have no error.
+    /// slot[4] = 1;
+    /// assert_eq!(pacer::read(&slot).unwrap_err().question, 17);
+    /// # Ok::<(), pacer::Refusal>(())
+    /// ```
+    pub fn header(&self) -> Header {
+        self.header
+    }
+
     /// The kind that the slot names.
     pub fn kind(&self) -> Kind {
         self.kind

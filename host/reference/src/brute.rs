@@ -1,10 +1,12 @@
-//! Demand 3 by trying every list of rows.
+//! Demand 3 by trying every list of rows, and rows by windows by going through the frames.
 //!
 //! Nothing here knows segments or blocks: a log is its covered frames with their values, a list
 //! of rows is any cutting of these frames, and a row's number is tried out. By the kind of the
-//! greatest load only numbers fit that are nowhere below a value in the row.
+//! greatest load only numbers fit that are nowhere below a value in the row. A window is its
+//! frames, and the records that meet it are those found at one of them.
 
-use crate::{Stretch, GREATEST};
+use crate::{aggregate, Record, Stretch, Window, GREATEST};
+use std::collections::BTreeSet;
 
 /// A covered frame: group, frame and value.
 pub type Frame = (u8, u32, u32);
@@ -247,9 +249,72 @@ fn blocks<'a>(
     })
 }
 
+/// The rows of some windows, by going through the frames of each and noting the places of the
+/// group's records that contain the frame. A record that is met at several frames is noted once,
+/// and equal records each. For few and short windows.
+pub fn rows_by_frames(records: &[Record], kind: u8, windows: &[Window]) -> Vec<Stretch> {
+    let mut rows = Vec::new();
+    for group in 0..8 {
+        for (first, last) in windows {
+            let mut met = BTreeSet::new();
+            for frame in *first..=*last {
+                for (place, record) in records.iter().enumerate() {
+                    if record.group == group && (record.first..=record.last).contains(&frame) {
+                        met.insert(place);
+                    }
+                }
+            }
+            let loads: Vec<u32> = met
+                .into_iter()
+                .map(|place| u32::from(records[place].load))
+                .collect();
+            if let Some(value) = aggregate(&loads, kind) {
+                rows.push(Stretch {
+                    group,
+                    first: *first,
+                    last: *last,
+                    value,
+                });
+            }
+        }
+    }
+    rows
+}
+
 #[cfg(test)]
 mod tests {
     use super::*;
+
+    /// Records that meet a window at one end, across it, within it and not; twins count twice.
+    #[test]
+    fn window_by_frames() {
+        let record = |group, first, last, load| Record {
+            mark: [0x4C, 0x44],
+            group,
+            first,
+            last,
+            load,
+        };
+        let records = [
+            record(3, 0, 10, 1),
+            record(3, 4, 9, 2),
+            record(3, 10, 12, 4),
+            record(3, 11, 12, 8),
+            record(3, 0, 20, 16),
+            record(3, 12, 12, 32),
+            record(3, 13, 14, 64),
+            record(3, 12, 12, 32),
+            record(4, 12, 12, 128),
+        ];
+        let windows = [(10, 12), (15, 19), (21, 30)];
+        let rows = rows_by_frames(&records, 0, &windows);
+        let values: Vec<(u8, u32)> = rows.iter().map(|row| (row.group, row.value)).collect();
+        assert_eq!(values, [(3, 93), (3, 16), (4, 128)]);
+        for kind in 0..=crate::MOST_KIND {
+            let by_frames = rows_by_frames(&records, kind, &windows);
+            assert_eq!(crate::window_rows(&records, kind, &windows), by_frames);
+        }
+    }
 
     #[test]
     fn three_ways_agree() {

@@ -4,7 +4,9 @@
 //! means differ where they can: segments are found frame by frame, not from event to event; the
 //! error of a block is summed over its segments, not computed from totals; the reduction is a
 //! plain table over all cuts, with no early exit, and the cuts that the paper's scan weighs are
-//! counted beside it. [`brute`] goes further: it tries every list of rows for a small log.
+//! counted beside it. Rows by windows are found window by window, the empty ones included.
+//! [`brute`] goes further: it tries every list of rows for a small log, and goes through the frames
+//! of a window.
 
 #![forbid(unsafe_code)]
 
@@ -18,6 +20,12 @@ pub const SHARE: u8 = 0x45;
 pub const MOST_KIND: u8 = 4;
 /// The kind of the greatest load, whose rows must not fall short.
 pub const GREATEST: u8 = 3;
+/// The second byte of a slot's header: rows by a bound.
+pub const BY_BOUND: u8 = 0x48;
+/// The second byte of a slot's header: rows by windows.
+pub const BY_WINDOWS: u8 = 0x53;
+/// The greatest number of rows in a slot.
+pub const MOST_ROWS: usize = 64;
 
 /// The first question that got 'no', and the index of the record or row.
 #[derive(Clone, Copy, Debug, PartialEq, Eq)]
@@ -110,7 +118,8 @@ fn slot_questions(slot: &[u8]) -> Vec<Question> {
         return questions;
     }
     let count = usize::from(slot[3]);
-    questions.push((11, 0, slot[..2] == [0x50, 0x48]));
+    let by_windows = slot[..2] == [0x50, BY_WINDOWS];
+    questions.push((11, 0, slot[..2] == [0x50, BY_BOUND] || by_windows));
     questions.push((12, 0, slot[2] <= MOST_KIND));
     questions.push((13, 0, count <= 64));
     if count > 64 {
@@ -135,21 +144,17 @@ fn slot_questions(slot: &[u8]) -> Vec<Question> {
         questions.push((16, index, ordered));
     }
     let after = 12 + 11 * count;
-    questions.push((17, 0, slot[after..768].iter().all(|byte| *byte == 0)));
+    let zero = |bytes: &[u8]| bytes.iter().all(|byte| *byte == 0);
+    let no_error = !by_windows || zero(&slot[4..12]);
+    questions.push((17, 0, zero(&slot[after..768]) && no_error));
     questions
 }
 
 // ---------------------------------------------------------------------------------------------
 // Segments
 
-/// The value of a frame: the aggregate of the loads of the records that contain it, none if no
-/// record does. All records are of the frame's group.
-fn value_of(of_group: &[Record], kind: u8, frame: u32) -> Option<u32> {
-    let loads: Vec<u32> = of_group
-        .iter()
-        .filter(|record| u32::from(record.first) <= frame && frame <= u32::from(record.last))
-        .map(|record| u32::from(record.load))
-        .collect();
+/// The kind's aggregate of some loads, none if there are none.
+fn aggregate(loads: &[u32], kind: u8) -> Option<u32> {
     if loads.is_empty() {
         return None;
     }
@@ -165,15 +170,31 @@ fn value_of(of_group: &[Record], kind: u8, frame: u32) -> Option<u32> {
     }
 }
 
+/// The value of a frame: the aggregate of the loads of the records that contain it, none if no
+/// record does. All records are of the frame's group.
+fn value_of(of_group: &[Record], kind: u8, frame: u32) -> Option<u32> {
+    let loads: Vec<u32> = of_group
+        .iter()
+        .filter(|record| u32::from(record.first) <= frame && frame <= u32::from(record.last))
+        .map(|record| u32::from(record.load))
+        .collect();
+    aggregate(&loads, kind)
+}
+
+/// The records of a group.
+fn of_group(records: &[Record], group: u8) -> Vec<Record> {
+    records
+        .iter()
+        .copied()
+        .filter(|record| record.group == group)
+        .collect()
+}
+
 /// Every covered frame with its value, by group and then by frame.
 pub fn covered(records: &[Record], kind: u8) -> Vec<(u8, u32, u32)> {
     let mut frames = Vec::new();
     for group in 0..8 {
-        let of_group: Vec<Record> = records
-            .iter()
-            .copied()
-            .filter(|record| record.group == group)
-            .collect();
+        let of_group = of_group(records, group);
         let first = of_group.iter().map(|record| u32::from(record.first)).min();
         let last = of_group.iter().map(|record| u32::from(record.last)).max();
         if let (Some(first), Some(last)) = (first, last) {
@@ -486,11 +507,109 @@ pub fn query(
 }
 
 // ---------------------------------------------------------------------------------------------
+// Rows by windows
+
+/// The first and last frame of a window, both included.
+pub type Window = (u16, u16);
+
+/// The windows every `length` frames, at least 1, from a start frame on, the last one cut off at
+/// frame 65,535.
+pub fn beats(length: u16, start: u16) -> Vec<Window> {
+    (u32::from(start)..65_536)
+        .step_by(usize::from(length))
+        .map(|first| {
+            let last = first + u32::from(length) - 1;
+            (first as u16, last.min(65_535) as u16)
+        })
+        .collect()
+}
+
+/// Whether scenes of these first and last frames pass question 19.
+pub fn in_order(firsts: &[u16], lasts: &[u16]) -> bool {
+    let counted = (1..=16).contains(&firsts.len()) && firsts.len() == lasts.len();
+    let forward = firsts.iter().zip(lasts).all(|(first, last)| first <= last);
+    let apart = lasts
+        .iter()
+        .zip(firsts.iter().skip(1))
+        .all(|(last, next)| last < next);
+    counted && forward && apart
+}
+
+/// Whether a record and a window have a frame in common.
+fn meets(record: &Record, (first, last): Window) -> bool {
+    record.first.max(first) <= record.last.min(last)
+}
+
+/// The rows of some windows: for each group, window after window, the aggregate of the loads of
+/// the group's records that meet the window; no row where none does.
+pub fn window_rows(records: &[Record], kind: u8, windows: &[Window]) -> Vec<Stretch> {
+    let mut rows = Vec::new();
+    for group in 0..8 {
+        let of_group = of_group(records, group);
+        for (first, last) in windows {
+            let loads: Vec<u32> = of_group
+                .iter()
+                .filter(|record| meets(record, (*first, *last)))
+                .map(|record| u32::from(record.load))
+                .collect();
+            rows.extend(aggregate(&loads, kind).map(|value| Stretch {
+                group,
+                first: *first,
+                last: *last,
+                value,
+            }));
+        }
+    }
+    rows
+}
+
+/// The question 20: at most 64 rows.
+fn ask_rows(rows: Vec<Stretch>) -> Result<Vec<Stretch>, No> {
+    ask([(20, 0, rows.len() <= MOST_ROWS)])?;
+    Ok(rows)
+}
+
+/// The query by beats: the rows, or the first question that got 'no'.
+pub fn query_beats(
+    kind: u8,
+    length: u16,
+    start: u16,
+    log: &[u8],
+    slot_length: usize,
+) -> Result<Vec<Stretch>, No> {
+    ask([
+        (1, 0, slot_length >= 768),
+        (2, 0, kind <= MOST_KIND),
+        (18, 0, length >= 1),
+    ])?;
+    ask(log_questions(log))?;
+    ask_rows(window_rows(&records(log), kind, &beats(length, start)))
+}
+
+/// The query by scenes: the rows, or the first question that got 'no'.
+pub fn query_scenes(
+    kind: u8,
+    firsts: &[u16],
+    lasts: &[u16],
+    log: &[u8],
+    slot_length: usize,
+) -> Result<Vec<Stretch>, No> {
+    ask([
+        (1, 0, slot_length >= 768),
+        (2, 0, kind <= MOST_KIND),
+        (19, 0, in_order(firsts, lasts)),
+    ])?;
+    ask(log_questions(log))?;
+    let scenes: Vec<Window> = firsts.iter().copied().zip(lasts.iter().copied()).collect();
+    ask_rows(window_rows(&records(log), kind, &scenes))
+}
+
+// ---------------------------------------------------------------------------------------------
 // Slot, reader, walk, lookup, writer
 
-/// The 768 bytes of a slot.
-pub fn layout(kind: u8, error: u64, rows: &[Stretch]) -> Vec<u8> {
-    let mut bytes = vec![0x50, 0x48, kind, rows.len() as u8];
+/// The 768 bytes of a slot; the mark is the second byte.
+pub fn layout(mark: u8, kind: u8, error: u64, rows: &[Stretch]) -> Vec<u8> {
+    let mut bytes = vec![0x50, mark, kind, rows.len() as u8];
     bytes.extend(error.to_le_bytes());
     for row in rows {
         bytes.extend([0x50, 0x52, row.group]);
@@ -516,6 +635,7 @@ fn row(slot: &[u8], number: usize) -> Stretch {
 /// What the reader gives.
 #[derive(Clone, Debug, PartialEq, Eq)]
 pub struct Contents {
+    pub mark: u8,
     pub kind: u8,
     pub error: u64,
     pub rows: Vec<Stretch>,
@@ -526,6 +646,7 @@ pub fn read(slot: &[u8]) -> Result<Contents, No> {
     ask(slot_questions(slot))?;
     let error = (0..8).map(|i| u64::from(slot[4 + i]) << (8 * i)).sum();
     Ok(Contents {
+        mark: slot[1],
         kind: slot[2],
         error,
         rows: (0..usize::from(slot[3])).map(|n| row(slot, n)).collect(),
@@ -678,6 +799,106 @@ mod tests {
         // With the rule of another kind for row values.
         let by_means = reduce(&segments(&g, GREATEST, 255).unwrap(), 0, ROWS, 3).unwrap();
         assert_eq!((by_means.rows[0].value, by_means.error), (173, 14_943));
+    }
+
+    /// The fields of a row: group, first, last, value.
+    fn fields(rows: &[Stretch]) -> Vec<(u8, u16, u16, u32)> {
+        rows.iter()
+            .map(|row| (row.group, row.first, row.last, row.value))
+            .collect()
+    }
+
+    /// The average salary by project and trimester of the first source's Figure 1, in hundredths.
+    #[test]
+    fn trimesters() {
+        let proj = log(&[
+            (0, 1, 4, 800),
+            (0, 3, 6, 400),
+            (0, 4, 7, 300),
+            (1, 4, 5, 500),
+            (1, 7, 8, 500),
+        ]);
+        let expected = [
+            (0, 1, 4, 50_000),
+            (0, 5, 8, 35_000),
+            (1, 1, 4, 50_000),
+            (1, 5, 8, 50_000),
+        ];
+        let by_beats = query_beats(4, 4, 1, &proj, 768).unwrap();
+        assert_eq!(fields(&by_beats), expected);
+        let by_scenes = query_scenes(4, &[1, 5], &[4, 8], &proj, 768).unwrap();
+        assert_eq!(by_scenes, by_beats);
+    }
+
+    /// Beats of log G; the last window of all is cut off.
+    #[test]
+    fn beats_of_g() {
+        let rows =
+            |kind, length, start| fields(&query_beats(kind, length, start, &log_g(), 768).unwrap());
+        assert_eq!(
+            rows(0, 4, 0),
+            [(0, 0, 3, 300), (0, 4, 7, 410), (0, 8, 11, 50), (1, 0, 3, 7)]
+        );
+        assert_eq!(rows(3, 7, 3), [(0, 3, 9, 210), (0, 10, 16, 50)]);
+        assert_eq!(rows(1, 65_535, 6), [(0, 6, 65_535, 2)]);
+        assert_eq!(rows(2, 65_535, 0), [(0, 0, 65_534, 50), (1, 0, 65_534, 7)]);
+        assert_eq!(rows(0, 1, 65_535), []);
+        assert_eq!(beats(65_535, 0), [(0, 65_534), (65_535, 65_535)]);
+        assert_eq!(beats(65_535, 1), [(1, 65_535)]);
+        assert_eq!(beats(1, 0).len(), 65_536);
+        assert_eq!(beats(1, 65_535), [(65_535, 65_535)]);
+    }
+
+    /// Question 19, part by part, and its place ahead of the log's questions.
+    #[test]
+    fn scenes_in_order() {
+        assert!(in_order(&[0, 4], &[3, 9]));
+        assert!(in_order(&[65_535], &[65_535]));
+        assert!(!in_order(&[], &[]));
+        assert!(!in_order(&[0, 4], &[3]));
+        assert!(!in_order(&[0, 3], &[3, 9]));
+        assert!(!in_order(&[4, 0], &[9, 3]));
+        assert!(!in_order(&[0, 9], &[3, 8]));
+        let sixteen: Vec<u16> = (0..16).collect();
+        let seventeen: Vec<u16> = (0..17).collect();
+        assert!(in_order(&sixteen, &sixteen));
+        assert!(!in_order(&seventeen, &seventeen));
+        let question = |kind, firsts: &[u16], log: &[u8], room| {
+            query_scenes(kind, firsts, firsts, log, room)
+                .unwrap_err()
+                .question
+        };
+        assert_eq!(question(5, &[], &[0], 767), 1);
+        assert_eq!(question(5, &[], &[0], 768), 2);
+        assert_eq!(question(4, &[], &[0], 768), 19);
+        assert_eq!(question(4, &[0], &[0], 768), 4);
+        let beats = |length, log: &[u8]| query_beats(0, length, 0, log, 768);
+        assert_eq!(beats(0, &[0]).unwrap_err().question, 18);
+        let wide = log(&[(0, 0, 63, 1), (1, 5, 5, 1)]);
+        assert_eq!(beats(1, &wide[..9]).unwrap().len(), 64);
+        assert_eq!(beats(1, &wide).unwrap_err().question, 20);
+    }
+
+    /// Both headers; an error under that of windows is asked of after the rows.
+    #[test]
+    fn headers() {
+        let rows = query_beats(0, 4, 0, &log_g(), 768).unwrap();
+        let answer = |mark, error, damaged: Option<usize>| {
+            let mut slot = layout(mark, 0, error, &rows);
+            if let Some(byte) = damaged {
+                slot[byte] ^= 1;
+            }
+            match read(&slot) {
+                Ok(contents) => (0, usize::from(contents.mark)),
+                Err(no) => (no.question, no.index),
+            }
+        };
+        assert_eq!(answer(BY_BOUND, 7, None), (0, 0x48));
+        assert_eq!(answer(BY_WINDOWS, 0, None), (0, 0x53));
+        assert_eq!(answer(BY_WINDOWS, 1 << 56, None), (17, 0));
+        assert_eq!(answer(BY_WINDOWS, 7, Some(34)), (14, 2));
+        assert_eq!(answer(BY_WINDOWS, 7, Some(1)), (11, 0));
+        assert_eq!(answer(0x43, 0, None), (11, 0));
     }
 
     /// The segments of the first source's running example, and its Figures 4 and 5.

@@ -4,8 +4,8 @@ use Rattle.theory.proofs.Numbers.{eight-bytes}
 use Rattle.layout.proofs.header_bytes.Statement.{statement}
 use Rattle.layout.proofs.header_bytes.Tie as tie
 
-cast-t4 : tie.Need-cast-t4
-cast-t4 c = search needs
+cast-t5 : tie.Need-cast-t5
+cast-t5 c = search needs
 
 low-requires : tie.Need-low-requires
 low-requires c κs = search needs
@@ -49,7 +49,7 @@ pub header-bytes-spec : {M : Type 1} → statement M
 header-bytes-spec =
     tie.close
     (tie.spec
-    cast-t4
+    cast-t5
     low-requires
     low-requires-2
     low-requires-3

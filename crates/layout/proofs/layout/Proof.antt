@@ -15,10 +15,10 @@ use Rattle.layout.proofs.layout.Statement.{statement}
 use Rattle.layout.proofs.layout.Tie as tie
 
 abbrev Inv-loop : tie.InvT-loop
-Inv-loop kind error count rows slot₀ i₀ slot i = (i ≤ count) × (slot ≡ soFar kind error count rows i)
+Inv-loop mark kind error count rows slot₀ i₀ slot i = (i ≤ count) × (slot ≡ soFar mark kind error count rows i)
 
 abbrev μ-loop : tie.MeasureT-loop
-μ-loop kind error count rows slot₀ i₀ slot i = count - i
+μ-loop mark kind error count rows slot₀ i₀ slot i = count - i
 
 no-slot-requires : tie.Need-no-slot-requires Inv-loop μ-loop
 no-slot-requires c κs = search needs
@@ -42,14 +42,14 @@ loop-holds c =
     let a = h .before .before .args in (
       search needs,
       s .copy .ensures .1
-          ∙ start (a .kind) (a .error) (a .count) (a .t3) _ _ (h .before .no-slot .ensures) (h .header-bytes .ensures),
+          ∙ start (a .mark) (a .kind) (a .error) (a .count) (a .t4) _ _ (h .before .no-slot .ensures) (h .header-bytes .ensures),
     )
 
 -- the slot stays as long as it is
 full : (c : tie.At-loop Inv-loop μ-loop) → length (c .loop .slot) ≡ 768
 full c =
     let a = c .before .before .before .before .before .before .before .args in
-    ap length (c .loop .inv .1) ∙ length-soFar (a .kind) (a .error) (a .count) (a .t3) (c .loop .i) (omega arith)
+    ap length (c .loop .inv .1) ∙ length-soFar (a .mark) (a .kind) (a .error) (a .count) (a .t4) (c .loop .i) (omega arith)
 
 mul-row-bytes : tie.Need-mul-row-bytes Inv-loop μ-loop
 mul-row-bytes c = search needs
@@ -101,8 +101,8 @@ loop-again c =
     let l = r .before .before .before in
     let a = l .before .before .before .before .before .before .before .args in (
       search needs,
-      turn (a .kind) (a .error) (a .count) (a .t3) (l .loop .i) _ _ _ _ (omega arith) (l .loop .inv .1) (p .place .ensures)
-          (r .row-bytes .ensures) (c .before .copy2 .ensures .1),
+      turn (a .mark) (a .kind) (a .error) (a .count) (a .t4) (l .loop .i) _ _ _ _ (omega arith) (l .loop .inv .1)
+          (p .place .ensures) (r .row-bytes .ensures) (c .before .copy2 .ensures .1),
     )
 
 returns : tie.Need-returns Inv-loop μ-loop
@@ -110,7 +110,9 @@ returns c =
     let l = c .before in
     let a = l .before .before .before .before .before .before .before .args in
     let end : l .loop .i ≡ a .count = omega arith in
-    l .loop .inv .1 ∙ ap (soFar (a .kind) (a .error) (a .count) (a .t3)) end ∙ finish (a .kind) (a .error) (a .count) (a .t3)
+    l .loop .inv .1
+    ∙ ap (soFar (a .mark) (a .kind) (a .error) (a .count) (a .t4)) end
+    ∙ finish (a .mark) (a .kind) (a .error) (a .count) (a .t4)
 
 pub layout-spec : {M : Type 1} → statement M
 layout-spec =

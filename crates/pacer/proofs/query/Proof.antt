@@ -7,8 +7,8 @@ use mathlib.Core.List.{List, _++_}
 use mathlib.Core.Path.{_≡_, sym, ap, _∙_}
 use lib.ListN.{length, drop}
 use Rattle.model.specs.Slot.{slotLength}
-use Rattle.model.specs.Calls.{queryOutcome, querySlot}
-use Rattle.theory.proofs.Demands.{query-promise}
+use Rattle.model.specs.Calls.{ruledOutcome, ruledSlot}
+use Rattle.theory.proofs.Demands.{ruled-promise}
 use Rattle.preparing.specs.Prepared.{writes, preparedSlot}
 use Rattle.pacer.proofs.Answering.{keeps, stores}
 use Rattle.pacer.proofs.query.Statement.{statement}
@@ -17,7 +17,7 @@ use Rattle.pacer.proofs.query.Tie as tie
 -- what was said of the answer
 said : (c : tie.After-is-written) →
     let a = c .before .before .before .before .args in
-    c .is-written .result ≡ writes (queryOutcome (a .query) (a .log .now) (length (a .slot .now)))
+    c .is-written .result ≡ writes (ruledOutcome (a .query) (a .log .now) (length (a .slot .now)))
 said c = c .is-written .ensures ∙ ap writes (c .before .prepare .ensures .0)
 
 prepare-requires : tie.Need-prepare-requires
@@ -31,14 +31,14 @@ returns c =
     let a = c .before .before .before .before .before .args in
     let says = c .before .before .prepare .ensures .0 in
     let kept = keeps (a .query) (a .log .now) (a .slot .now) (sym (said (c .before)) ∙ not-true _ (c .if1 .taken)) in
-    (says, (kept, query-promise (a .query) (a .log .now) (a .slot .now) _ _ says kept))
+    (says, (kept, ruled-promise (a .query) (a .log .now) (a .slot .now) _ _ says kept))
 
 -- a query that writes
 stored : (c : tie.After-store-arg) →
     let a = c .before .before .before .before .before .before .before .args in
     (slotLength ≤ length (a .slot .now))
     × (preparedSlot (a .query) (a .log .now) (length (a .slot .now)) ++ drop slotLength (a .slot .now)
-    ≡ querySlot (a .query) (a .log .now) (a .slot .now))
+    ≡ ruledSlot (a .query) (a .log .now) (a .slot .now))
 stored c = stores _ _ _ (sym (said (c .before .before .before)) ∙ not-false _ (c .before .before .if1 .left))
 
 store-requires : tie.Need-store-requires
@@ -57,7 +57,7 @@ returns-2 c =
     let says = p .prepare .ensures .0 in
     let holds = s .store .ensures
     ∙ ap (λ (l : List ℕ). l ++ drop 768 (a .slot .now)) (p .prepare .ensures .1) ∙ stored (s .before) .1 in
-    (says, (holds, query-promise (a .query) (a .log .now) (a .slot .now) _ _ says holds))
+    (says, (holds, ruled-promise (a .query) (a .log .now) (a .slot .now) _ _ says holds))
 
 pub query-spec : {M : Type 1} → statement M
 query-spec =

@@ -22,8 +22,8 @@ kept : (kind letter x : ℕ) (log slot : List ℕ) {says : Outcome Counts} {afte
 kept kind letter x log slot {says} {after} answers holds =
     (answers, (holds, letter-promise kind letter x log slot says after answers holds))
 
-query-requires : tie.Need-query-requires
-query-requires c κs = search needs
+query-by-bound-requires : tie.Need-query-by-bound-requires
+query-by-bound-requires c κs = search needs
 
 same-length : tie.Need-same-length
 same-length c = search needs
@@ -33,13 +33,13 @@ unfolding boundOf
 returns c =
     let t = c .before .before .before .before in
     let a = t .before .before .before .args in
-    let e = c .before .before .query .ensures in
+    let e = c .before .before .query-by-bound .ensures in
     let says = by-letter (a .kind) (a .letter) (a .bound) (a .log .now) (a .slot .now) (Rows (a .bound))
     (simp (eq-eqb _ _ (t .if1 .taken))) in
     kept (a .kind) (a .letter) (a .bound) (a .log .now) (a .slot .now) (e .0 ∙ says .0) (e .1 .0 ∙ says .1)
 
-query-requires-2 : tie.Need-query-requires-2
-query-requires-2 c κs = search needs
+query-by-bound-requires-2 : tie.Need-query-by-bound-requires-2
+query-by-bound-requires-2 c κs = search needs
 
 same-length-2 : tie.Need-same-length-2
 same-length-2 c = search needs
@@ -49,7 +49,7 @@ unfolding boundOf
 returns-2 c =
     let t = c .before .before .before .before in
     let a = t .before .before .before .before .args in
-    let e = c .before .before .query2 .ensures in
+    let e = c .before .before .query-by-bound2 .ensures in
     let says = by-letter (a .kind) (a .letter) (a .bound) (a .log .now) (a .slot .now) (Share (a .bound))
     (simp (ne-eqb _ _ (t .before .if1 .left), eq-eqb _ _ (t .if2 .taken))) in
     kept (a .kind) (a .letter) (a .bound) (a .log .now) (a .slot .now) (e .0 ∙ says .0) (e .1 .0 ∙ says .1)
@@ -70,10 +70,10 @@ pub query-by-letter-spec : {M : Type 1} → statement M
 query-by-letter-spec =
     tie.close
     (tie.spec
-    query-requires
+    query-by-bound-requires
     same-length
     returns
-    query-requires-2
+    query-by-bound-requires-2
     same-length-2
     returns-2
     refuse-letter-requires

@@ -1,15 +1,15 @@
--- `ask` meets its contract: 1 to 3, then the log's own. Assumes nothing.
+-- `ask` meets its contract: the query's own, then the log's. Assumes nothing.
 use borrow.Author.Needs.{needs}
 use mathlib.Core.Path.{sym, ap, _∙_}
 use Rattle.model.specs.Questions.{logQuestions}
 use Rattle.model.specs.Calls.{askedCase}
 use Rattle.theory.proofs.Refusals.{outcome-accepted, outcome-behind, refused-first}
-use Rattle.preparing.specs.Prepared.{boundQuestions}
+use Rattle.preparing.specs.Prepared.{earlyQuestions}
 use Rattle.preparing.proofs.ask.Statement.{statement}
 use Rattle.preparing.proofs.ask.Tie as tie
 
-ask-bound-requires : tie.Need-ask-bound-requires
-ask-bound-requires c κs = search needs
+ask-query-requires : tie.Need-ask-query-requires
+ask-query-requires c κs = search needs
 
 enum-told : tie.Need-enum-told
 enum-told c = search needs
@@ -24,9 +24,9 @@ returns : tie.Need-returns
 unfolding askedCase
 returns c =
     let a = c .before .before .before .before .before .args in
-    let says = sym (c .before .before .before .ask-bound .ensures) ∙ ap askedCase (c .before .enum-told .given .1) in
+    let says = sym (c .before .before .before .ask-query .ensures) ∙ ap askedCase (c .before .enum-told .given .1) in
     c .ask .ensures
-    ∙ sym (outcome-behind (boundQuestions (a .query) (a .room)) (logQuestions (a .log .now)) (tt {0})
+    ∙ sym (outcome-behind (earlyQuestions (a .query) (a .room)) (logQuestions (a .log .now)) (tt {0})
     (outcome-accepted _ (tt {0}) (tt {0}) says .0))
 
 returns-2 : tie.Need-returns-2
@@ -34,10 +34,10 @@ unfolding askedCase
 returns-2 c =
     let a = c .before .before .before .before .before .args in
     let g = c .before .asked .given in
-    let says = sym (c .before .before .before .ask-bound .ensures) ∙ ap askedCase (g .1) in
-    sym (refused-first (boundQuestions (a .query) (a .room)) (logQuestions (a .log .now)) (tt {0}) (tt {0}) _ _ says)
+    let says = sym (c .before .before .before .ask-query .ensures) ∙ ap askedCase (g .1) in
+    sym (refused-first (earlyQuestions (a .query) (a .room)) (logQuestions (a .log .now)) (tt {0}) (tt {0}) _ _ says)
 
 pub ask-spec : {M : Type 1} → statement M
 ask-spec =
     tie.close
-    (tie.spec ask-bound-requires enum-told ask-requires enum-known-asked returns returns-2)
+    (tie.spec ask-query-requires enum-told ask-requires enum-known-asked returns returns-2)

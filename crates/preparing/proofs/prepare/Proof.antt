@@ -1,9 +1,9 @@
--- `prepare` meets its contract: 1 to 9, then the reduction. Assumes nothing.
+-- `prepare` meets its contract: the questions ahead of the last, then the answer. Assumes nothing.
 use mathlib.Core.Path.{_≡_, sym, ap, _∙_}
 use Rattle.model.specs.Slot.{slotLength}
 use Rattle.model.specs.Questions.{accepted, outcome}
 use Rattle.model.specs.Calls.{askedCase, queryCase}
-use Rattle.preparing.proofs.Answering.{earlyQuestions, refused-early, in-order, laid-out}
+use Rattle.preparing.proofs.Answering.{aheadOfRows, refused-early, in-order, laid-out}
 use borrow.Author.Needs.{needs}
 use Rattle.preparing.proofs.prepare.Statement.{statement}
 use Rattle.preparing.proofs.prepare.Tie as tie
@@ -14,15 +14,15 @@ ask-requires c κs = search needs
 enum-told : tie.Need-enum-told
 enum-told c = search needs
 
--- 1 to 9 are passed
+-- those ahead of the last are passed
 early : (c : tie.After-enum-told) →
     let a = c .before .before .before .before .args in
-    outcome (earlyQuestions (a .query) (a .log .now) (a .room)) (tt {0}) ≡ accepted tt
+    outcome (aheadOfRows (a .query) (a .log .now) (a .room)) (tt {0}) ≡ accepted tt
 unfolding askedCase
 early c = sym (c .before .before .ask .ensures) ∙ ap askedCase (c .enum-told .given .1)
 
-reduce-requires : tie.Need-reduce-requires
-reduce-requires c κs = in-order _ _ _ (early c)
+answer-requires : tie.Need-answer-requires
+answer-requires c κs = in-order _ _ _ (early c)
 
 enum-known-asked : tie.Need-enum-known-asked
 enum-known-asked c = search needs
@@ -31,7 +31,7 @@ no-slot-requires : tie.Need-no-slot-requires
 no-slot-requires c κs = search needs
 
 returns : tie.Need-returns
-returns c = laid-out _ _ _ (early (c .before)) (c .reduce .result) (c .reduce .ensures)
+returns c = laid-out _ _ _ (early (c .before)) (c .answer .result) (c .answer .ensures)
 
 returns-2 : tie.Need-returns-2
 unfolding askedCase queryCase slotLength
@@ -48,7 +48,7 @@ prepare-spec =
     (tie.spec
     ask-requires
     enum-told
-    reduce-requires
+    answer-requires
     enum-known-asked
     no-slot-requires
     returns

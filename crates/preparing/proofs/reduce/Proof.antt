@@ -8,7 +8,7 @@ use borrow.Author.Tests.{not-true, not-false}
 use Rattle.model.specs.Spans.{Span}
 use Rattle.model.specs.Log.{records}
 use Rattle.model.specs.Segments.{segments}
-use Rattle.model.specs.Slot.{slotLength}
+use Rattle.model.specs.Slot.{slotLength, byBound}
 use Rattle.model.specs.Split.{reduced, countFor}
 use Rattle.model.specs.Questions.{ask, logQuestions, orderQuestions}
 use Rattle.model.specs.Calls.{logSegments}
@@ -125,7 +125,7 @@ returns-2 c =
     let q = (Decoded f) .before .before .args .query in
     c .lay-out .ensures
     ∙ laid-rows (q .kind) (seg f) (f .find .result) (answer e) _ (c .before .between .ensures)
-    ∙ ap (λ (segs : List (Span ℕ)). laidOut (q .kind) (reduced (q .kind) (q .bound) segs)) (found f)
+    ∙ ap (λ (segs : List (Span ℕ)). laidOut byBound 10 (q .kind) (reduced (q .kind) (q .bound) segs)) (found f)
 
 pub reduce-spec : {M : Type 1} → statement M
 reduce-spec =

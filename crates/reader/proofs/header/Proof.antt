@@ -5,7 +5,7 @@ use mathlib.Core.Path.{_≡_, sym, ap, _∙_}
 use native.Mathlib.Omega.{arith}
 use denote.Ref.{now}
 use lib.ListN.{length}
-use Rattle.model.specs.Slot.{slotKind, slotCount, slotError}
+use Rattle.model.specs.Slot.{slotMark, slotKind, slotCount, slotError}
 use Rattle.model.specs.Questions.{accepted, slotQuestions}
 use Rattle.model.specs.Calls.{askedCase, readCase, readOutcome}
 use Rattle.theory.proofs.Refusals.{refused-same, passed-same}
@@ -38,11 +38,14 @@ long c = slot-sized (Slot c) (passed c) .0
 shared-slice-read-t6 : tie.Need-shared-slice-read-t6
 shared-slice-read-t6 c = let s = long (c .before) in omega arith
 
+shared-slice-read-t8 : tie.Need-shared-slice-read-t8
+shared-slice-read-t8 c = let s = long (c .before .before) in omega arith
+
 eight-requires : tie.Need-eight-requires
-eight-requires c κs = let s = long (c .before) in search needs
+eight-requires c κs = let s = long (c .before .before) in search needs
 
 shared-slice-read-wide : tie.Need-shared-slice-read-wide
-shared-slice-read-wide c = let s = long (c .before .before .before) in omega arith
+shared-slice-read-wide c = let s = long (c .before .before .before .before) in omega arith
 
 wide-requires : tie.Need-wide-requires
 wide-requires c κs = search needs
@@ -55,9 +58,9 @@ returns c =
     sym (refused-same _ tt _ _ _ no)
 
 returns-2 : tie.Need-returns-2
-unfolding readCase readOutcome slotKind slotCount slotError
+unfolding readCase readOutcome slotMark slotKind slotCount slotError
 returns-2 c =
-    let p = c .before .before .before .before in
+    let p = c .before .before .before .before .before in
     rw (c .before .before .eight .ensures, c .wide .ensures) (sym (passed-same (slotQuestions (Slot p)) tt _ (passed p)))
 
 pub header-spec : {M : Type 1} → statement M
@@ -68,6 +71,7 @@ header-spec =
     enum-known-asked
     enum-told
     shared-slice-read-t6
+    shared-slice-read-t8
     eight-requires
     shared-slice-read-wide
     wide-requires

@@ -6,7 +6,7 @@ use native.Mathlib.Omega.{arith}
 use borrow.Author.Needs.{needs}
 use denote.Ref.{now}
 use lib.ListN.{length, getD}
-use Rattle.model.specs.Slot.{slotKind, slotCount, slotError, slotRows}
+use Rattle.model.specs.Slot.{slotMark, slotKind, slotCount, slotError, slotRows}
 use Rattle.model.specs.Questions.{accepted, slotQuestions}
 use Rattle.model.specs.Calls.{askedCase, readCase, readOutcome, readRows}
 use Rattle.model.specs.Arrays.{rowArray}
@@ -52,8 +52,11 @@ read-rows-requires c κs = let s = sizes (c .before .before) in search needs
 shared-slice-read-t10 : tie.Need-shared-slice-read-t10
 shared-slice-read-t10 c = let s = sizes (c .before .before .before .before) in omega arith
 
+shared-slice-read-t13 : tie.Need-shared-slice-read-t13
+shared-slice-read-t13 c = let s = sizes (c .before .before .before .before .before) in omega arith
+
 eight-requires : tie.Need-eight-requires
-eight-requires c κs = let s = sizes (c .before .before .before .before) in search needs
+eight-requires c κs = let s = sizes (c .before .before .before .before .before) in search needs
 
 returns : tie.Need-returns
 unfolding askedCase readCase readOutcome readRows
@@ -63,12 +66,14 @@ returns c =
     (sym (refused-same _ tt _ _ _ no), c .no-rows .ensures ∙ ap rowArray (sym (refused-lent _ tt _ _ _ _ no)))
 
 returns-2 : tie.Need-returns-2
-unfolding readCase readOutcome readRows slotRows slotKind slotCount slotError
+unfolding readCase readOutcome readRows slotRows slotMark slotKind slotCount slotError
 returns-2 c =
-    let p = c .before .before .before .before .before in (
-      rw (c .eight .ensures, c .before .before .before .wide .ensures) (sym (passed-same (slotQuestions (Slot p)) tt _ (passed p))),
-      c .before .before .read-rows .ensures
-          ∙ rw (c .before .before .before .wide .ensures) (ap rowArray (sym (passed-lent (slotQuestions (Slot p)) tt _ _ (passed p)))),
+    let p = c .before .before .before .before .before .before in (
+      rw (c .eight .ensures, c .before .before .before .before .wide .ensures)
+          (sym (passed-same (slotQuestions (Slot p)) tt _ (passed p))),
+      c .before .before .before .read-rows .ensures
+          ∙ rw (c .before .before .before .before .wide .ensures)
+          (ap rowArray (sym (passed-lent (slotQuestions (Slot p)) tt _ _ (passed p)))),
     )
 
 pub read-spec : {M : Type 1} → statement M
@@ -83,6 +88,7 @@ read-spec =
     wide-requires
     read-rows-requires
     shared-slice-read-t10
+    shared-slice-read-t13
     eight-requires
     returns
     returns-2)

@@ -57,7 +57,7 @@ returns c =
 value-at-requires : tie.Need-value-at-requires
 value-at-requires c κs =
     let s = c .before .before in
-    (s .pre .0, (s .pre .1 .0, λ (none-held : length (loadsAt (s .args .a) (own s)) ≡ 0). c .if1 .left (s .pre .1 .0 .counts ∙ none-held)))
+    (s .pre .0, (s .pre .1 .0, λ (none-held : length (loadsAt (s .args .a) (s .args .a) (own s)) ≡ 0). c .if1 .left (s .pre .1 .0 .counts ∙ none-held)))
 
 extend-requires : tie.Need-extend-requires
 extend-requires c κs =

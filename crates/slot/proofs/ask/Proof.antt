@@ -1,5 +1,6 @@
 -- `slot::ask` meets its contract: the header's questions, then the rows', then 17. Assumes nothing.
 use Prim.Native.Nat.{ℕ, _≤_}
+use mathlib.Core.Bool.{_&&_}
 use mathlib.Core.List.{List, [], _∷_}
 use mathlib.Core.Path.{_≡_, sym, ap, _∙_}
 use native.Mathlib.Omega.{arith}
@@ -7,7 +8,7 @@ use borrow.Author.Needs.{needs}
 use denote.Ref.{now}
 use lib.ListN.{length, getD, take}
 use Rattle.model.specs.Slot.{slotLength, rowPlace, slotCount}
-use Rattle.model.specs.Questions.{accepted, ask, outcome, each, rowQuestions, tailZero, slotQuestions}
+use Rattle.model.specs.Questions.{accepted, ask, outcome, each, rowQuestions, tailZero, errorKnown, slotQuestions}
 use Rattle.model.specs.Calls.{askedCase}
 use Rattle.theory.proofs.Asking.{answer}
 use Rattle.slot.proofs.Answers.{header-sized, refused-header, refused-rows, behind-rows}
@@ -57,6 +58,9 @@ is-zero-requires : tie.Need-is-zero-requires
 unfolding rowPlace
 is-zero-requires c κs = let s = sizes (c .before .before .before .before .before .before) in search needs
 
+error-known-requires : tie.Need-error-known-requires
+error-known-requires c κs = let s = sizes (c .before .before .before .before .before .before .before) in search needs
+
 no-requires : tie.Need-no-requires
 no-requires c κs = search needs
 
@@ -67,7 +71,7 @@ rows : (c : tie.After-ask-rows)
 unfolding slotCount
 rows c = c .ask-rows .ensures ∙ rw (c .before .wide .ensures)
 
--- the tail's test is that of 17
+-- the tail's test is one of 17's
 tail : (c : tie.After-is-zero) → c .is-zero .result ≡ tailZero (Slot (c .before .before .before .before .before .before .before))
 unfolding tailZero slotCount slotLength
 tail c =
@@ -75,14 +79,15 @@ tail c =
     c .is-zero .ensures ∙ rw (c .before .place .ensures, w .wide .ensures)
 
 -- what 17 answers is what all answer
-last : (c : tie.After-is-zero)
-    → answer (ask 17 0 (c .is-zero .result) ∷ []) ≡ answer (slotQuestions (Slot (c .before .before .before .before .before .before .before)))
+last : (c : tie.After-error-known)
+    → answer (ask 17 0 (c .before .is-zero .result && c .error-known .result) ∷ [])
+    ≡ answer (slotQuestions (Slot (c .before .before .before .before .before .before .before .before)))
 unfolding askedCase
 last c =
-    let r = c .before .before in
+    let r = c .before .before .before in
     let h = r .before .before .before .before .before in
     let passed = sym (rows (r .before .before)) ∙ ap askedCase (r .enum-told2 .given .1) in
-    rw (tail c) (sym (behind-rows (Slot h) (header h) passed))
+    rw (tail (c .before), c .error-known .ensures) (sym (behind-rows (Slot h) (header h) passed))
 
 returns : tie.Need-returns
 unfolding askedCase
@@ -119,6 +124,7 @@ ask-spec =
     enum-told-2
     place-requires
     is-zero-requires
+    error-known-requires
     no-requires
     returns
     returns-2

@@ -12,7 +12,7 @@ use lib.Dec.{leb}
 use lib.ListN.{length, getD}
 use Rattle.model.specs.Split.{mostRows}
 use Rattle.model.specs.Slot.{slotLength, slotKind, slotCount}
-use Rattle.model.specs.Questions.{ask, askRoom, outcome, marked, mostKind, kindKnown, slotQuestions}
+use Rattle.model.specs.Questions.{ask, askRoom, outcome, headerMarked, mostKind, kindKnown, slotQuestions}
 use Rattle.model.specs.Calls.{askedCase}
 use Rattle.theory.proofs.Asking.{denied, granted}
 use Rattle.slot.proofs.ask_header.Statement.{statement}
@@ -38,15 +38,15 @@ returns : tie.Need-returns
 unfolding slotQuestions outcome ask askRoom askedCase
 returns c = rw (short (c .before)) (ap askedCase (c .no .ensures))
 
-marked-requires : tie.Need-marked-requires
-marked-requires c κs = search needs
+header-marked-requires : tie.Need-header-marked-requires
+header-marked-requires c κs = search needs
 
 no-requires-2 : tie.Need-no-requires-2
 no-requires-2 c κs = search needs
 
 -- 11 is asked of the first two bytes
-mark : (c : tie.After-marked) → c .marked .result ≡ marked (Slot (c .before)) 0 0x50 0x48
-mark c = c .marked .ensures
+mark : (c : tie.After-header-marked) → c .header-marked .result ≡ headerMarked (Slot (c .before))
+mark c = c .header-marked .ensures
 
 returns-2 : tie.Need-returns-2
 unfolding slotQuestions outcome ask askRoom askedCase
@@ -115,7 +115,7 @@ ask-header-spec =
     (tie.spec
     no-requires
     returns
-    marked-requires
+    header-marked-requires
     no-requires-2
     returns-2
     shared-slice-read-if3

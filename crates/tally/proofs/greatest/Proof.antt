@@ -15,18 +15,18 @@ use Rattle.tally.proofs.greatest.Statement.{statement}
 use Rattle.tally.proofs.greatest.Tie as tie
 
 abbrev Inv-loop : tie.InvT-loop
-Inv-loop firsts lasts loads own a found₀ index₀ found index =
+Inv-loop firsts lasts loads own a b found₀ index₀ found index =
     (index ≤ own)
-    × (max found (foldr max 0 (loadsAt a (listFrom index (own - index) (ownIn firsts lasts loads))))
-    ≡ foldr max 0 (loadsAt a (ownsIn firsts lasts loads own)))
+    × (max found (foldr max 0 (loadsAt a b (listFrom index (own - index) (ownIn firsts lasts loads))))
+    ≡ foldr max 0 (loadsAt a b (ownsIn firsts lasts loads own)))
 
 abbrev μ-loop : tie.MeasureT-loop
-μ-loop firsts lasts loads own a found₀ index₀ found index = own - index
+μ-loop firsts lasts loads own a b found₀ index₀ found index = own - index
 
 loop-holds : tie.Need-loop-holds Inv-loop μ-loop
 loop-holds c =
     let all : c .args .own - 0 ≡ c .args .own = omega arith in
-    rw all (omega arith, greatest-start (loadsAt (c .args .a) (ownsIn (c .args .firsts .now) (c .args .lasts .now) (c .args .loads .now) (c .args .own))))
+    rw all (omega arith, greatest-start (loadsAt (c .args .a) (c .args .b) (ownsIn (c .args .firsts .now) (c .args .lasts .now) (c .args .loads .now) (c .args .own))))
 
 record-at-requires : tie.Need-record-at-requires Inv-loop μ-loop
 record-at-requires c κs = omega arith
@@ -51,9 +51,9 @@ loop-again c =
     let a = c .before .before .before .before .before .before .args in
     let l = c .before .before .before .before .before .loop in
     let h = ownIn (a .firsts .now) (a .lasts .now) (a .loads .now) in
-    let picked : c .before .pick .result ≡ cond (held (a .a) (h (l .index))) (h (l .index) .load) 0 =
+    let picked : c .before .pick .result ≡ cond (held (a .a) (a .b) (h (l .index))) (h (l .index) .load) 0 =
     c .before .pick .ensures ∙ rw (c .before .before .holds .ensures, c .before .before .before .record-at .ensures) in
-    let more = fold-left (a .a) h (l .index) (a .own) (c .before .before .before .before .loop-test .taken) max 0 greatest-start in
+    let more = fold-left (a .a) (a .b) h (l .index) (a .own) (c .before .before .before .before .loop-test .taken) max 0 greatest-start in
     rw (add-one (l .index)) (omega arith, omega (arith, c .higher .ensures))
 
 returns : tie.Need-returns Inv-loop μ-loop
@@ -61,7 +61,7 @@ unfolding listFrom loadsAt
 returns c =
     let a = c .before .before .args in
     let l = c .before .loop in
-    let loads = loadsAt (a .a) (ownsIn (a .firsts .now) (a .lasts .now) (a .loads .now) (a .own)) in
+    let loads = loadsAt (a .a) (a .b) (ownsIn (a .firsts .now) (a .lasts .now) (a .loads .now) (a .own)) in
     let none-left : a .own - l .index ≡ 0 = omega arith in
     let greatest : foldr max 0 loads ≡ l .found = omega (arith, rw none-left at (l .inv .1)) in
     greatest-value loads (c .before .before .pre .1) ∙ ap (λ (v : ℕ). some v) greatest

@@ -16,20 +16,20 @@ use Rattle.tally.proofs.least.Statement.{statement}
 use Rattle.tally.proofs.least.Tie as tie
 
 abbrev Inv-loop : tie.InvT-loop
-Inv-loop firsts lasts loads own a found₀ index₀ found index =
+Inv-loop firsts lasts loads own a b found₀ index₀ found index =
     (index ≤ own)
     × (found ≤ 65535)
     × ((i : ℕ) → i < index → ownIn firsts lasts loads i .load ≤ 65535)
-    × (min found (foldr min 65535 (loadsAt a (listFrom index (own - index) (ownIn firsts lasts loads))))
-    ≡ foldr min 65535 (loadsAt a (ownsIn firsts lasts loads own)))
+    × (min found (foldr min 65535 (loadsAt a b (listFrom index (own - index) (ownIn firsts lasts loads))))
+    ≡ foldr min 65535 (loadsAt a b (ownsIn firsts lasts loads own)))
 
 abbrev μ-loop : tie.MeasureT-loop
-μ-loop firsts lasts loads own a found₀ index₀ found index = own - index
+μ-loop firsts lasts loads own a b found₀ index₀ found index = own - index
 
 loop-holds : tie.Need-loop-holds Inv-loop μ-loop
 loop-holds c =
     let all : c .args .own - 0 ≡ c .args .own = omega arith in
-    rw all (omega arith, omega arith, below-none _, least-start (loadsAt (c .args .a) (ownsIn (c .args .firsts .now) (c .args .lasts .now) (c .args .loads .now) (c .args .own))))
+    rw all (omega arith, omega arith, below-none _, least-start (loadsAt (c .args .a) (c .args .b) (ownsIn (c .args .firsts .now) (c .args .lasts .now) (c .args .loads .now) (c .args .own))))
 
 record-at-requires : tie.Need-record-at-requires Inv-loop μ-loop
 record-at-requires c κs = omega arith
@@ -56,9 +56,9 @@ loop-again c =
     let h = ownIn (a .firsts .now) (a .lasts .now) (a .loads .now) in
     let r = c .before .before .before .record-at .result in
     let read = c .before .before .before .record-at .ensures in
-    let picked : c .before .pick .result ≡ cond (held (a .a) (h (l .index))) (h (l .index) .load) 65535 =
+    let picked : c .before .pick .result ≡ cond (held (a .a) (a .b) (h (l .index))) (h (l .index) .load) 65535 =
     c .before .pick .ensures ∙ rw (c .before .before .holds .ensures, read) in
-    let more = fold-left (a .a) h (l .index) (a .own) (c .before .before .before .before .loop-test .taken) min 65535 least-start in
+    let more = fold-left (a .a) (a .b) h (l .index) (a .own) (c .before .before .before .before .loop-test .taken) min 65535 least-start in
     let small : h (l .index) .load ≤ 65535 = rw read at (let e : r .load ≤ 65535 = omega (arith, c .before .before .before .record-at .ok) in e) in (
       omega arith,
       omega arith,
@@ -73,8 +73,8 @@ returns c =
     let l = c .before .loop in
     let h = ownIn (a .firsts .now) (a .lasts .now) (a .loads .now) in
     let none-left : a .own - l .index ≡ 0 = omega arith in
-    let least : foldr min 65535 (loadsAt (a .a) (listFrom 0 (a .own) h)) ≡ l .found = omega (arith, rw none-left at (l .inv .3)) in
-    least-value (a .a) h (a .own) (c .before .before .pre .1) (λ i lt. l .inv .2 i (omega arith)) ∙ ap (λ (v : ℕ). some v) least
+    let least : foldr min 65535 (loadsAt (a .a) (a .b) (listFrom 0 (a .own) h)) ≡ l .found = omega (arith, rw none-left at (l .inv .3)) in
+    least-value (a .a) (a .b) h (a .own) (c .before .before .pre .1) (λ i lt. l .inv .2 i (omega arith)) ∙ ap (λ (v : ℕ). some v) least
 
 pub least-spec : {M : Type 1} → statement M
 least-spec =

@@ -10,15 +10,15 @@ use Rattle.tally.proofs.survey.Statement.{statement}
 use Rattle.tally.proofs.survey.Tie as tie
 
 abbrev Inv-loop : tie.InvT-loop
-Inv-loop firsts lasts loads own a stop₀ count₀ low₀ high₀ index₀ stop count low high index =
-    (index ≤ own) × Surveying a (ownIn firsts lasts loads) own index stop count low high
+Inv-loop firsts lasts loads own a b stop₀ count₀ low₀ high₀ index₀ stop count low high index =
+    (index ≤ own) × Surveying a b (ownIn firsts lasts loads) own index stop count low high
 
 abbrev μ-loop : tie.MeasureT-loop
-μ-loop firsts lasts loads own a stop₀ count₀ low₀ high₀ index₀ stop count low high index = own - index
+μ-loop firsts lasts loads own a b stop₀ count₀ low₀ high₀ index₀ stop count low high index = own - index
 
 loop-holds : tie.Need-loop-holds Inv-loop μ-loop
 loop-holds c =
-    let a = c .args in (omega arith, survey-none (a .a) (ownIn (a .firsts .now) (a .lasts .now) (a .loads .now)) (a .own))
+    let a = c .args in (omega arith, survey-none (a .a) (a .b) (ownIn (a .firsts .now) (a .lasts .now) (a .loads .now)) (a .own))
 
 record-at-requires : tie.Need-record-at-requires Inv-loop μ-loop
 record-at-requires c κs = omega arith
@@ -61,7 +61,7 @@ loop-again c =
     let r = c .before .before .before .before .record-at in
     let x = c .before .before .pick in (
       omega arith,
-      survey-more (a .a) h (a .own) (l .index) (l .stop) (l .count) (l .low) (l .high) (c .before .before .before .before .before .loop-test .taken) (l .inv .1) (r .result) (c .before .before .before .holds .result) (x .result) (c .before .stop-of .result) (c .lower .result) (r .ensures) (c .before .before .before .holds .ensures) (x .ensures) (omega (arith, x .ok)) (c .before .stop-of .ensures) (c .lower .ensures),
+      survey-more (a .a) (a .b) h (a .own) (l .index) (l .stop) (l .count) (l .low) (l .high) (c .before .before .before .before .before .loop-test .taken) (l .inv .1) (r .result) (c .before .before .before .holds .result) (x .result) (c .before .stop-of .result) (c .lower .result) (r .ensures) (c .before .before .before .holds .ensures) (x .ensures) (omega (arith, x .ok)) (c .before .stop-of .ensures) (c .lower .ensures),
     )
 
 wide-requires : tie.Need-wide-requires Inv-loop μ-loop
@@ -70,18 +70,18 @@ wide-requires c κs = search needs
 wide-requires-2 : tie.Need-wide-requires-2 Inv-loop μ-loop
 wide-requires-2 c κs = search needs
 
-mul-t18 : tie.Need-mul-t18 Inv-loop μ-loop
-mul-t18 c = omega arith
+mul-t19 : tie.Need-mul-t19 Inv-loop μ-loop
+mul-t19 c = omega arith
 
-add-t19 : tie.Need-add-t19 Inv-loop μ-loop
-add-t19 c = omega arith
+add-t20 : tie.Need-add-t20 Inv-loop μ-loop
+add-t20 c = omega arith
 
 returns : tie.Need-returns Inv-loop μ-loop
 returns c =
     let a = c .before .before .before .before .args in
     let l = c .before .before .before .loop in
     let h = ownIn (a .firsts .now) (a .lasts .now) (a .loads .now) in
-    let all = survey-all (a .a) h (a .own) (l .index) (l .stop) (l .count) (l .low) (l .high) (c .before .before .loop-test .left) (l .inv .1) in
+    let all = survey-all (a .a) (a .b) h (a .own) (l .index) (l .stop) (l .count) (l .low) (l .high) (c .before .before .loop-test .left) (l .inv .1) in
     let total : c .before .wide .result + 256 * c .wide2 .result ≡ l .low + 256 * l .high =
     omega (arith, c .before .wide .ensures, c .wide2 .ensures) in
     record { stops = all .0; counts = all .1; sums = total ∙ all .2; sum-le = omega arith }
@@ -107,6 +107,6 @@ survey-spec =
     loop-again
     wide-requires
     wide-requires-2
-    mul-t18
-    add-t19
+    mul-t19
+    add-t20
     returns)

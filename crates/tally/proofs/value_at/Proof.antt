@@ -9,9 +9,9 @@ use Rattle.tally.proofs.Loads.{sum-value, count-value, mean-value, othe
 use Rattle.tally.proofs.value_at.Statement.{statement}
 use Rattle.tally.proofs.value_at.Tie as tie
 
--- the loads at the frame
+-- the loads that meet the frames
 abbrev loads : tie.Start → List ℕ
-loads s = loadsAt (s .args .a) (ownsIn (s .args .firsts .now) (s .args .lasts .now) (s .args .loads .now) (s .args .own))
+loads s = loadsAt (s .args .a) (s .args .b) (ownsIn (s .args .firsts .now) (s .args .lasts .now) (s .args .loads .now) (s .args .own))
 
 wide-requires : tie.Need-wide-requires
 wide-requires c κs = search needs

@@ -1,0 +1,2 @@
+-- What the C calls answer beyond one call of the tool.
+pub mod Ruled
