@@ -98,11 +98,12 @@ unfoldable pub queryQuestions : Query → List ℕ → ℕ → List Question
 queryQuestions q log room =
     askRoom slotLength room ∷ (orderQuestions q log ++ (ask 10 0 (enoughRows q log) ∷ []))
 
--- scene i is from a first frame to a last one, wholly after the scene before
+-- scene i begins after the last frame of the scene before
 unfoldable pub sceneFollows : List ℕ → List ℕ → ℕ → Bool
 sceneFollows firsts lasts zero = true
 sceneFollows firsts lasts (suc i) = ltb (getD lasts i 0) (getD firsts (suc i) 0)
 
+-- scene i is from a first frame to a last one, wholly after the scene before
 unfoldable pub sceneKnown : List ℕ → List ℕ → ℕ → Bool
 sceneKnown firsts lasts i =
     leb (getD firsts i 0) (getD lasts i 0) && ltb (getD lasts i 0) frameCount && sceneFollows firsts lasts i

@@ -1,4 +1,4 @@
--- Span temporal aggregation (source document 000, section 2): rows by scene or by beat. A window is a stretch of frames, and
+-- Span temporal aggregation (source document 000, sections 1.2 and 2.1): rows by scene or by beat. A window is a stretch of frames, and
 -- gives a row for each group of which some record meets it.
 use Prim.Native.Nat.{ℕ, _+_, _-_, _*_, _/_, min}
 use mathlib.Core.List.{List, [], _∷_}

@@ -18,8 +18,12 @@ use model::RuledQuery;
 use model::SLOT_LENGTH;
 ghost use mathlib.Core.Path.{_≡_};
 ghost use mathlib.Core.List.{_++_};
+ghost use mathlib.Core.Bool.{true};
+ghost use mathlib.Core.Option.{some};
 ghost use Prim.Native.Nat.{_≤_};
+ghost use Rattle.model.specs.Common.{isSome};
 ghost use Rattle.model.specs.Split.{reduced};
+ghost use Rattle.model.specs.Windows.{boundIn};
 ghost use Rattle.model.specs.Slot.{byBound, byWindows};
 ghost use Rattle.model.specs.Questions.{outcome, logQuestions, orderQuestions, windowRows, ruledOrder};
 ghost use Rattle.model.specs.Calls.{askedCase, queryCase, logSegments, ruledOutcome};
@@ -169,34 +173,50 @@ fn list(query: RuledQuery, log: &[u8]) -> Prepared
     lay_out(BY_WINDOWS, query.kind, unreduced, rows)
 }
 
-// What a query in order is answered, by its rule.
+// Whether a rule is a bound.
+fn is_bound(rule: Rule) -> bool
+    ensures { λ r. ⌜ r ≡ isSome (boundIn rule) ⌝ }
+{
+    match rule {
+        Rule::Rows(_) => true,
+        Rule::Share(_) => true,
+        Rule::Every {
+            length: _,
+            start: _,
+        } => false,
+        Rule::Scenes(_) => false,
+    }
+}
+
+// The bound that a rule is.
+fn bound_of(rule: Rule) -> Bound
+    requires { ⌜ isSome (boundIn rule) ≡ true ⌝ }
+    ensures { λ r. ⌜ boundIn rule ≡ some r ⌝ }
+{
+    match rule {
+        Rule::Rows(c) => Bound::Rows(c),
+        Rule::Share(p) => Bound::Share(p),
+        Rule::Every {
+            length: _,
+            start: _,
+        } => Bound::Rows(0),
+        Rule::Scenes(_) => Bound::Rows(0),
+    }
+}
+
+// What a query in order is answered, by its rule. There is one call of `reduce`, so that the compiler puts it in place and its slot is
+// not copied.
 fn answer(query: RuledQuery, log: &[u8]) -> Prepared
     requires { ⌜ AllPass (ruledOrder query (now log)) ⌝ }
     ensures { λ r. ⌜ r ≡ answered query (now (log .entry)) ⌝ }
 {
     let kind = query.kind;
     let rule = query.rule;
-    match rule {
-        Rule::Rows(c) => reduce(
-            Query {
-                kind,
-                bound: Bound::Rows(c),
-            },
-            log,
-        ),
-        Rule::Share(p) => reduce(
-            Query {
-                kind,
-                bound: Bound::Share(p),
-            },
-            log,
-        ),
-        Rule::Every {
-            length: _,
-            start: _,
-        } => list(query, log),
-        Rule::Scenes(_) => list(query, log),
+    if is_bound(rule) {
+        let bound = bound_of(rule);
+        return reduce(Query { kind, bound }, log);
     }
+    list(query, log)
 }
 
 // Asks a query's questions and works out its slot, where as many bytes are lent.

@@ -1,5 +1,6 @@
 // Runs what has no C export, on a log from standard input: a query with its reader in one call, and the walker. Prints the answer to
-// kind 0 with at most 4 rows, the first four rows as the reader returned them, and the walker's answers after 0 to 5 steps.
+// kind 0 with at most 4 rows, the first four rows as the reader returned them, and the walker's answers after 0 to 5 steps; then the
+// answer to kind 0 by three scenes, and the walker's answers after 0 to 4 steps.
 use libc::STDIN_FILENO;
 use libc::STDOUT_FILENO;
 use model::Bound;
@@ -51,6 +52,21 @@ fn print_walked(slot: &[u8], steps: usize) {
     }
 }
 
+// The answer for a log by three scenes, and the walker's after 0 to 4 steps.
+fn print_scenes(log: &[u8]) {
+    let mut slot = common::no_slot();
+    let firsts = [0u16, 2, 7];
+    let lasts = [1u16, 6, 65535];
+    let query = rules::scenes(0, &firsts, &lasts);
+    let answer = pacer::query(query, log, &mut slot);
+    print_answer(answer);
+    print_walked(&slot, 0);
+    print_walked(&slot, 1);
+    print_walked(&slot, 2);
+    print_walked(&slot, 3);
+    print_walked(&slot, 4);
+}
+
 fn main() {
     let mut input = io::buffer();
     let n = io::read_full(STDIN_FILENO, &mut input);
@@ -59,7 +75,8 @@ fn main() {
         kind: 0,
         bound: Bound::Rows(4),
     };
-    let queried = pacer::query_and_read(query, &input[..n], &mut slot);
+    let log = &input[..n];
+    let queried = pacer::query_and_read(query, log, &mut slot);
     let answer = queried.answer;
     print_answer(answer);
     let reading = queried.reading;
@@ -74,4 +91,5 @@ fn main() {
     print_walked(&slot, 3);
     print_walked(&slot, 4);
     print_walked(&slot, 5);
+    print_scenes(log);
 }

@@ -3,7 +3,7 @@ use borrow.Author.Needs.{needs}
 use Prim.Native.Nat.{ℕ}
 use mathlib.Core.List.{List}
 use mathlib.Core.Option.{none, some}
-use mathlib.Core.Path.{_≡_, ap, _∙_, subst}
+use mathlib.Core.Path.{_≡_, sym, _∙_}
 use Rattle.model.specs.Split.{reduced}
 use Rattle.model.specs.Windows.{boundIn}
 use Rattle.model.specs.Slot.{byBound, byWindows}
@@ -12,6 +12,7 @@ use Rattle.model.specs.Calls.{logSegments}
 use Rattle.model.specs.Demands.{AllPass}
 use Rattle.model.specs.declared.Bound.{Bound}
 use Rattle.model.specs.declared.RuledQuery.{RuledQuery}
+use Rattle.theory.proofs.Tests.{is-none}
 use Rattle.theory.proofs.Ruled.{bound-order}
 use Rattle.preparing.specs.Prepared.{laidOut, listed, answered}
 use Rattle.preparing.proofs.answer.Statement.{statement}
@@ -32,73 +33,32 @@ by-windows : (q : RuledQuery) (log : List ℕ) → boundIn (q .rule) ≡ none
 unfolding answered
 by-windows q log is = rw (is, answered)
 
-enum-known-rule : tie.Need-enum-known-rule
-enum-known-rule c = search needs
+is-bound-requires : tie.Need-is-bound-requires
+is-bound-requires c κs = search needs
+
+bound-of-requires : tie.Need-bound-of-requires
+bound-of-requires c κs = sym (c .before .is-bound .ensures) ∙ c .if1 .taken
 
 reduce-requires : tie.Need-reduce-requires
-unfolding boundIn
 reduce-requires c κs =
     let s = c .before .before .before .before in
-    bounded (s .args .query) (s .args .log .now) _ (ap boundIn (c .before .rule .given .1)) (s .pre)
+    bounded (s .args .query) (s .args .log .now) _ (c .bound-of .ensures) (s .pre)
 
-enum-known-rule-2 : tie.Need-enum-known-rule-2
-enum-known-rule-2 c = search needs
-
-reduce-requires-2 : tie.Need-reduce-requires-2
-unfolding boundIn
-reduce-requires-2 c κs =
-    let s = c .before .before .before .before in
-    bounded (s .args .query) (s .args .log .now) _ (ap boundIn (c .before .rule2 .given .1)) (s .pre)
-
-enum-told : tie.Need-enum-told
-enum-told c = search needs
+returns : tie.Need-returns
+returns c =
+    let s = c .before .before .before .before .before in
+    c .reduce .ensures ∙ by-bound (s .args .query) (s .args .log .now) _ (c .before .bound-of .ensures)
 
 list-requires : tie.Need-list-requires
 list-requires c κs = c .before .before .before .pre
 
-enum-told-2 : tie.Need-enum-told-2
-enum-told-2 c = search needs
-
-list-requires-2 : tie.Need-list-requires-2
-list-requires-2 c κs = c .before .before .before .pre
-
-returns : tie.Need-returns
-unfolding boundIn
-returns c =
-    let s = c .before .before .before .before .before in
-    c .reduce .ensures ∙ by-bound (s .args .query) (s .args .log .now) _ (ap boundIn (c .before .before .rule .given .1))
-
 returns-2 : tie.Need-returns-2
-unfolding boundIn
 returns-2 c =
-    let s = c .before .before .before .before .before in
-    c .reduce2 .ensures ∙ by-bound (s .args .query) (s .args .log .now) _ (ap boundIn (c .before .before .rule2 .given .1))
-
-returns-3 : tie.Need-returns-3
-unfolding boundIn
-returns-3 c =
     let s = c .before .before .before .before in
-    c .list .ensures ∙ by-windows (s .args .query) (s .args .log .now) (ap boundIn (c .before .enum-told .given .1))
-
-returns-4 : tie.Need-returns-4
-unfolding boundIn
-returns-4 c =
-    let s = c .before .before .before .before in
-    c .list2 .ensures ∙ by-windows (s .args .query) (s .args .log .now) (ap boundIn (c .before .enum-told2 .given .1))
+    c .list .ensures
+    ∙ by-windows (s .args .query) (s .args .log .now) (is-none _ (sym (c .before .before .is-bound .ensures) ∙ c .before .if1 .left))
 
 pub answer-spec : {M : Type 1} → statement M
 answer-spec =
     tie.close
-    (tie.spec
-    enum-known-rule
-    reduce-requires
-    enum-known-rule-2
-    reduce-requires-2
-    enum-told
-    list-requires
-    enum-told-2
-    list-requires-2
-    returns
-    returns-2
-    returns-3
-    returns-4)
+    (tie.spec is-bound-requires bound-of-requires reduce-requires returns list-requires returns-2)
