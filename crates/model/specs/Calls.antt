@@ -141,9 +141,6 @@ ruledMark q = elim (boundIn (q .rule)) [ none ↦ byWindows | some bound ↦ byB
 unfoldable pub ruledOutcome : RuledQuery → List ℕ → ℕ → Outcome Counts
 ruledOutcome q log room = outcome (ruledQuestions q log room) (countsOf (ruledAnswer q log))
 
-unfoldable pub ruledWeighed : RuledQuery → List ℕ → ℕ → ℕ
-ruledWeighed q log room = lent (ruledQuestions q log room) ((ruledAnswer q log) .weighed) 0
-
 unfoldable pub ruledSlot : RuledQuery → List ℕ → List ℕ → List ℕ
 ruledSlot q log slot =
     lent (ruledQuestions q log (length slot))

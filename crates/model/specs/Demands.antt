@@ -20,7 +20,7 @@ use Rattle.model.specs.Questions.{Question, Outcome, refused, accepted, 
 use Rattle.model.specs.Questions.{logQuestions, orderQuestions, writeQuestions, segmentsQuestions, queryQuestions, slotQuestions, lookupQuestions, mostSegments}
 use Rattle.model.specs.Questions.{ruleQuestion, withBound, windowRows, ruledOrder, ruledQuestions}
 use Rattle.model.specs.Calls.{Counts, Header, writeOutcome, writtenBuffer, segmentsOutcome, filledList, logSegments, queryOutcome, querySlot, answerOf, countsOf, readOutcome, readRows, readListQuestions, readListOutcome, readList, stepOutcome, stepNext, lookupOutcome}
-use Rattle.model.specs.Calls.{ruledOutcome, ruledWeighed, ruledSlot, beatQuery}
+use Rattle.model.specs.Calls.{ruledOutcome, ruledSlot, beatQuery}
 use Rattle.model.specs.Calls.{cutsWeighed, queryWeighed, boundOf, byLetterQuestions, letterOutcome, letterSlot, letterWeighed}
 use Rattle.model.specs.Guarantee.{Choices, LeastOfFewest, BestRows, NoRows}
 use Rattle.model.specs.Fitting.{hits, due, FitsFor, rowLists}
@@ -268,7 +268,6 @@ pub record WindowPromise (q : RuledQuery) (log slot : List ℕ) (says : Outcome 
 
 -- a query by a rule: the promise of its bound, or of its windows
 pub record RuledPromise (q : RuledQuery) (log slot : List ℕ) (says : Outcome Counts) (after : List ℕ) : Type 0 where
-  pub weighed : cutsWeighed says ≡ ruledWeighed q log (length slot)
   pub bounded : (bound : Bound) → boundIn (q .rule) ≡ some bound → QueryPromise (withBound q bound) log slot says after
   pub windowed : boundIn (q .rule) ≡ none → WindowPromise q log slot says after
 

@@ -17,10 +17,10 @@ use Rattle.model.specs.Split.{mostRows, countFor, Reduced, reduced, reducedTo, 
 use Rattle.model.specs.Reductions.{IsReduction}
 use Rattle.model.specs.Windows.{boundIn}
 use Rattle.model.specs.Slot.{slotLength, byBound, byWindows, slotBytes}
-use Rattle.model.specs.Questions.{withBound, windowRows, ruleQuestion, ruledOrder, ruledQuestions}
+use Rattle.model.specs.Questions.{withBound, windowRows, ruleQuestion, ruledOrder}
 use Rattle.model.specs.Questions.{Question, Outcome, accepted, ask, outcome, lent, kindKnown, boundKnown, logQuestions, orderQuestions, queryQuestions, enoughRows}
 use Rattle.model.specs.Calls.{Counts, logSegments, answerOf, countsOf, queryOutcome, querySlot, readRows}
-use Rattle.model.specs.Calls.{ruledAnswer, ruledMark, ruledOutcome, ruledWeighed, ruledSlot}
+use Rattle.model.specs.Calls.{ruledAnswer, ruledMark, ruledOutcome, ruledSlot}
 use Rattle.model.specs.Calls.{cutsWeighed, queryWeighed, boundOf, letterQuestions, letterOutcome, letterSlot, letterWeighed}
 use Rattle.model.specs.Guarantee.{Choices, BestRows}
 use Rattle.model.specs.Fitting.{FitsFor}
@@ -281,10 +281,8 @@ query-promise q log slot says after answers holds =
 -- and the same of a query by a rule
 pub ruled-promise : (q : RuledQuery) (log slot : List ℕ) (says : Outcome Counts) (after : List ℕ)
     → says ≡ ruledOutcome q log (length slot) → after ≡ ruledSlot q log slot → RuledPromise q log slot says after
-unfolding ruledOutcome ruledWeighed countsOf
 ruled-promise q log slot says after answers holds =
     record {
-      weighed = ap cutsWeighed answers ∙ weighed-asked (ruledQuestions q log (length slot)) (countsOf (ruledAnswer q log));
       bounded = λ bound e.
           query-promise (withBound q bound) log slot says after
           (answers ∙ bound-outcome q bound e log (length slot)) (holds ∙ bound-slot q bound e log slot);

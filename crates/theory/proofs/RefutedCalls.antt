@@ -14,8 +14,8 @@ use Rattle.model.specs.Log.{recordLength, recordBytes}
 use Rattle.model.specs.Split.{mostRows}
 use Rattle.model.specs.Slot.{slotLength, byBound, byWindows, rowBytes, rowsBytes, usedBytes, slotBytes, rowPlace, slotMark, slotKind, slotCount, slotError, slotRow, slotRows}
 use Rattle.model.specs.Questions.{Question, Outcome, refused, accepted, ask, askRoom, outcome, each, marked, kindKnown, groupKnown, spanQuestions, mostSegments, follows, inOrder, rowKnown, rowQuestions, zeros, tailZero, errorKnown, headerMarked}
-use Rattle.model.specs.Questions.{writeQuestions, segmentsQuestions, orderQuestions, logQuestions, queryQuestions, slotQuestions, lookupQuestions}
-use Rattle.model.specs.Calls.{Counts, Header, writeOutcome, writtenBuffer, segmentsOutcome, filledList, queryOutcome, querySlot, boundOf, letterQuestions, byLetterQuestions, letterOutcome, letterSlot, readOutcome, readRows, readListQuestions, readListOutcome, readList, stepOutcome, stepNext, lookupOutcome}
+use Rattle.model.specs.Questions.{writeQuestions, segmentsQuestions, orderQuestions, logQuestions, queryQuestions, ruleQuestion, ruledOrder, ruledQuestions, slotQuestions, lookupQuestions}
+use Rattle.model.specs.Calls.{Counts, Header, writeOutcome, writtenBuffer, segmentsOutcome, filledList, queryOutcome, querySlot, ruledOutcome, ruledSlot, beatQuery, boundOf, letterQuestions, byLetterQuestions, letterOutcome, letterSlot, readOutcome, readRows, readListQuestions, readListOutcome, readList, stepOutcome, stepNext, lookupOutcome}
 use Rattle.model.specs.Demands.{FirstNo, Asks, Storable}
 use Rattle.model.specs.declared.Bound.the-variants.{Rows}
 use Rattle.model.specs.declared.Segment.{Segment}
@@ -92,8 +92,9 @@ first-noes : (outcome (writeQuestions wrong-record 9) (tt {0}) ≡ refused 7 0)
     × (outcome (readListQuestions zero-slot 64) (tt {0}) ≡ refused 11 0)
     × (outcome (slotQuestions (slotBytes 0x43 0 0 [])) (tt {0}) ≡ refused 11 0)
     × (outcome (slotQuestions (slotBytes byWindows 0 11280 rows-G)) (tt {0}) ≡ refused 17 0)
-unfolding outcome ask askRoom writeQuestions spanQuestions groupKnown recordLength segmentsQuestions mostSegments kindKnown logQuestions queryQuestions orderQuestions slotLength byLetterQuestions boundOf letterQuestions slotQuestions lookupQuestions readListQuestions marked slotBytes usedBytes rowsBytes rowBytes bytesOf slotMark slotKind slotCount slotError slotRow rowPlace numberAt each rowQuestions rowKnown inOrder follows headerMarked tailZero errorKnown zeros mostRows
-first-noes = (refl, refl, refl, refl, refl, refl, refl, refl, refl)
+    × (outcome (ruledQuestions (beatQuery 0 0 1) [] 768) (tt {0}) ≡ refused 18 0)
+unfolding outcome ask askRoom writeQuestions spanQuestions groupKnown recordLength segmentsQuestions mostSegments kindKnown logQuestions queryQuestions orderQuestions slotLength byLetterQuestions boundOf letterQuestions slotQuestions lookupQuestions readListQuestions marked slotBytes usedBytes rowsBytes rowBytes bytesOf slotMark slotKind slotCount slotError slotRow rowPlace numberAt each rowQuestions rowKnown inOrder follows headerMarked tailZero errorKnown zeros mostRows ruledQuestions ruledOrder ruleQuestion beatQuery
+first-noes = (refl, refl, refl, refl, refl, refl, refl, refl, refl, refl)
 
 -- accepted in spite of a 'no' (acceptance), refused by a later 'no' (refusal), refused and written all the same (refusal)
 pub accepted-in-spite : Asks (writeQuestions wrong-record 9) (accepted (tt {0})) nines nines → ⊥
@@ -125,6 +126,13 @@ pub wrong-query : ((counts : Counts) → queryOutcome (query 5 (Rows 65)) [] 768
 unfolding slotBytes usedBytes
 wrong-query =
     let (says, kept) = asks-refused _ _ _ 2 0 (first-noes .2) _ (demand1 .query (query 5 (Rows 65)) [] zero-slot) in
+    ((λ counts e. accepted≢refused (sym e ∙ says)), λ e. omega (arith, ap (λ (l : List ℕ). getD l 0 0) (sym e ∙ kept)))
+
+pub wrong-beats : ((counts : Counts) → ruledOutcome (beatQuery 0 0 1) [] 768 ≡ accepted counts → ⊥)
+    × (ruledSlot (beatQuery 0 0 1) [] zero-slot ≡ slotBytes byWindows 0 0 [] → ⊥)
+unfolding slotBytes usedBytes
+wrong-beats =
+    let (says, kept) = asks-refused _ _ _ 18 0 (first-noes .9) _ (demand1 .ruled (beatQuery 0 0 1) [] zero-slot) in
     ((λ counts e. accepted≢refused (sym e ∙ says)), λ e. omega (arith, ap (λ (l : List ℕ). getD l 0 0) (sym e ∙ kept)))
 
 pub wrong-letter : ((counts : Counts) → letterOutcome 0 0x41 4 [] 768 ≡ accepted counts → ⊥)
