@@ -1,63 +1,31 @@
--- Rows put behind those of a listing: in two parts, past the 64th, and what the listing holds then. Assumes nothing.
-use Prim.Native.Nat.{ℕ, suc, _+_, _≤_, _<_, min}
+-- Rows put into an array of 64 places, one after the other, while others are left: none, one more, the last, and one too many.
+-- Assumes nothing.
+use Prim.Native.Nat.{ℕ, suc, _+_, _≤_, _<_}
 use mathlib.Core.List.{List, [], _∷_, _++_, append-assoc, append-nil}
 use mathlib.Core.Path.{_≡_, refl, sym, ap, _∙_}
 use native.Mathlib.Omega.{arith}
-use lib.Dec.{ltb}
-use lib.ListN.{length, getD, set, length-set}
+use lib.ListN.{length, getD, set, length-set, length-append}
 use lib.Seq.{getD-set-same, getD-set-other}
-use borrow.Author.Tests.{ltb-true, ltb-false, lt-ltb, le-ltb}
 use Rattle.model.specs.Common.{listFrom}
 use Rattle.model.specs.Spans.{Span, nowhere}
 use Rattle.model.specs.Calls.{rowSpan, rowOfSpan}
 use Rattle.model.specs.Arrays.{rowsIn, rowArray}
 use Rattle.model.specs.declared.Row.{Row}
-use Rattle.theory.proofs.Tests.{cases}
 use Rattle.theory.proofs.Lists.{listFrom-snoc, listFrom-cong}
-use Rattle.windows.specs.Listed.{put, putAll, Lists}
-use Rattle.windows.specs.declared.Listing.{Listing}
+use Rattle.theory.proofs.SlotLaws.{length-listFrom}
+use Rattle.windows.specs.Listed.{Lists}
 
-pub put-parts : (l : Listing) (a b : List (Span ℕ)) → putAll l (a ++ b) ≡ putAll (putAll l a) b
-unfolding putAll
-put-parts l [] b = refl
-put-parts l (r ∷ a) b = put-parts (put l r) a b
+-- the first `made` rows of an array, and then those left, are all
+pub record Made (rows : List Row) (made : ℕ) (left all : List (Span ℕ)) : Type 0 where
+  pub places : length rows ≡ 64
+  pub few : made ≤ 64
+  pub listed : rowsIn rows made ++ left ≡ all
 
-pub put-one : (l : Listing) (r : Span ℕ) → l .count < 64
-    → put l r ≡ record { rows = set (l .rows) (l .count) (rowOfSpan r); count = suc (l .count) }
-unfolding put
-put-one l r room = rw (lt-ltb (l .count) 64 room)
+pub made-none : (all : List (Span ℕ)) → Made (rowArray []) 0 all all
+unfolding rowsIn listFrom rowArray
+made-none all = record { places = refl; few = omega arith; listed = refl }
 
-put-over : (l : Listing) (r : Span ℕ) → 64 ≤ l .count → put l r ≡ record { rows = l .rows; count = 65 }
-unfolding put
-put-over l r full = rw (le-ltb (l .count) 64 full)
-
--- past the 64th row nothing changes but the count
-over-all : (rows : List Row) (rs : List (Span ℕ))
-    → putAll (record { rows = rows; count = 65 }) rs ≡ record { rows = rows; count = 65 }
-unfolding putAll
-over-all rows [] = refl
-over-all rows (r ∷ rs) =
-    ap (λ (l : Listing). putAll l rs) (put-over (record { rows = rows; count = 65 }) r (omega arith)) ∙ over-all rows rs
-
-pub put-full : (l : Listing) (r : Span ℕ) (rs : List (Span ℕ)) → 64 ≤ l .count
-    → putAll l (r ∷ rs) ≡ record { rows = l .rows; count = 65 }
-unfolding putAll
-put-full l r rs full = ap (λ (m : Listing). putAll m rs) (put-over l r full) ∙ over-all (l .rows) rs
-
--- ---- what a listing holds
-
-put-count : (l : Listing) (r : Span ℕ) → l .count ≤ 65 → put l r .count ≡ min 65 (suc (l .count))
-put-count l r small =
-    cases (ltb (l .count) 64)
-    (λ e. ap (λ (m : Listing). m .count) (put-one l r (ltb-true (l .count) 64 e)) ∙ omega (arith, ltb-true (l .count) 64 e))
-    (λ e. ap (λ (m : Listing). m .count) (put-over l r (ltb-false (l .count) 64 e)) ∙ omega (arith, ltb-false (l .count) 64 e))
-
-count-all : (l : Listing) (rs : List (Span ℕ)) → l .count ≤ 65 → putAll l rs .count ≡ min 65 (l .count + length rs)
-unfolding putAll
-count-all l [] small = omega arith
-count-all l (r ∷ rs) small = let one = put-count l r small in count-all (put l r) rs (omega arith) ∙ omega arith
-
--- one row more
+-- the array with one row more
 rows-more : (rows : List Row) (n : ℕ) (r : Span ℕ) → n < length rows
     → rowsIn (set rows n (rowOfSpan r)) (suc n) ≡ rowsIn rows n ++ (r ∷ [])
 unfolding rowsIn rowSpan rowOfSpan
@@ -71,22 +39,35 @@ rows-more rows n r room =
           (λ i from before. ap rowSpan (getD-set-other rows n i (rowOfSpan r) d (λ (e : i ≡ n). omega arith))),
     )
 
-rows-all : (l : Listing) (rs : List (Span ℕ)) → length (l .rows) ≡ 64 → l .count + length rs ≤ 64
-    → rowsIn (putAll l rs .rows) (putAll l rs .count) ≡ rowsIn (l .rows) (l .count) ++ rs
-unfolding putAll
-rows-all l [] places few = sym (append-nil (rowsIn (l .rows) (l .count)))
-rows-all l (r ∷ rs) places few =
-    let l′ : Listing = record { rows = set (l .rows) (l .count) (rowOfSpan r); count = suc (l .count) } in
-    ap (λ (m : Listing). rowsIn (putAll m rs .rows) (putAll m rs .count)) (put-one l r (omega arith))
-    ∙ rows-all l′ rs (length-set (l .rows) (l .count) (rowOfSpan r) ∙ places) (omega arith)
-    ∙ ap (λ (rows : List (Span ℕ)). rows ++ rs) (rows-more (l .rows) (l .count) r (omega arith))
-    ∙ append-assoc (rowsIn (l .rows) (l .count)) (r ∷ []) rs
+module _ (rows : List Row) (made : ℕ) (all : List (Span ℕ)) where
+  count-all : (left : List (Span ℕ)) → Made rows made left all → length all ≡ made + length left
+  unfolding rowsIn
+  count-all left m =
+      sym (ap length (m .listed)) ∙ length-append (rowsIn rows made) left ∙ rw (length-listFrom 0 made (λ (i : ℕ). rowSpan (getD rows i (rowOfSpan nowhere))))
 
--- rows put into an empty listing
-pub lists-all : (rs : List (Span ℕ)) → Lists (putAll (record { rows = rowArray []; count = 0 }) rs) rs
-unfolding rowsIn listFrom rowArray
-lists-all rs =
-    record {
-      counts = count-all _ rs (omega arith) ∙ omega arith;
-      holds = λ few. rows-all (record { rows = rowArray []; count = 0 }) rs refl (omega arith);
-    }
+  pub made-next : (r : Span ℕ) (left : List (Span ℕ)) → Made rows made (r ∷ left) all → made < 64
+      → Made (set rows made (rowOfSpan r)) (suc made) left all
+  made-next r left m room =
+      record {
+        places = length-set rows made (rowOfSpan r) ∙ m .places;
+        few = room;
+        listed =
+            ap (λ (rs : List (Span ℕ)). rs ++ left) (rows-more rows made r (omega (arith, m .places)))
+            ∙ append-assoc (rowsIn rows made) (r ∷ []) left
+            ∙ m .listed;
+      }
+
+  pub made-all : Made rows made [] all → Lists (record { rows = rows; count = made }) all
+  made-all m =
+      record {
+        counts = omega (arith, count-all [] m, m .few);
+        holds = λ few. sym (append-nil (rowsIn rows made)) ∙ m .listed;
+      }
+
+  pub made-past : (r : Span ℕ) (left : List (Span ℕ)) → Made rows made (r ∷ left) all → 64 ≤ made
+      → Lists (record { rows = rows; count = 65 }) all
+  made-past r left m full =
+      record {
+        counts = omega (arith, count-all (r ∷ left) m);
+        holds = λ few. absurd (omega (arith, count-all (r ∷ left) m));
+      }

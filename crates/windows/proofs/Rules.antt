@@ -13,7 +13,7 @@ use Rattle.model.specs.declared.Rule.the-variants.{Rows, Share, Every, Scenes}
 use Rattle.model.specs.declared.RuledQuery.{RuledQuery}
 use Rattle.theory.proofs.Tests as tests
 use Rattle.theory.proofs.Windows.{every-at}
-use Rattle.windows.specs.Listed.{Known}
+use Rattle.windows.specs.Listed.{Known, byRule}
 use Rattle.windows.proofs.Beats.{beat-forward}
 
 module _ (q : RuledQuery) (length start : ℕ) (rule : q .rule ≡ Every length start) where
@@ -66,3 +66,12 @@ forward q known i lt = by (q .rule) refl
         rw (beat-at q length start e i)
         (beat-forward length start (some-frames q length start e known) i (rw (beat-count q length start e) at lt))
     by (Scenes count) e = rw (scene-at q count e i) (scene-forward q count e known i (rw (scene-count q count e) at lt))
+
+-- the kind is no part of this
+pub known-by-rule : (q : RuledQuery) → Known q → Known (byRule (q .rule) (q .firsts) (q .lasts))
+unfolding ruleQuestion
+known-by-rule q known = known
+
+pub window-by-rule : (q : RuledQuery) (i : ℕ) → windowAt (byRule (q .rule) (q .firsts) (q .lasts)) i ≡ windowAt q i
+unfolding windowAt
+window-by-rule q i = refl

@@ -5,6 +5,7 @@ use common::no_rows;
 use model::MOST_GROUP;
 use model::MOST_RECORDS;
 use model::MOST_ROWS;
+use model::MOST_SCENES;
 use model::Row;
 use model::Rule;
 use model::RuledQuery;
@@ -12,8 +13,7 @@ ghost use mathlib.Core.Path.{_≡_};
 ghost use Prim.Native.Nat.{_<_, _≤_, min};
 ghost use Rattle.model.specs.Windows.{beat, beatCount, windowCount, windowAt, windows, spanRows};
 ghost use Rattle.model.specs.Arrays.{spansIn};
-ghost use Rattle.tally.specs.Tally.{ownsIn};
-ghost use Rattle.windows.specs.Listed.{Known, asWindow, ownRows, putAll, Lists, Skips};
+ghost use Rattle.windows.specs.Listed.{Known, byRule, asWindow, Lists, Skips};
 
 // Rows of windows, and how many they are: 65 stands for more than 64, which have no place.
 pub struct Listing {
@@ -75,19 +75,23 @@ fn beat(length: u16, start: u16, i: usize) -> Stretch
     }
 }
 
-// Window i of a query.
-fn window(query: RuledQuery, i: usize) -> Stretch
-    requires { ⌜ Known query × (i < windowCount (query .rule)) ⌝ }
-    ensures { λ r. ⌜ asWindow r ≡ windowAt query i ⌝ }
+// Window i of a query by this rule, with these first and last frames of scenes: lent, since they would be copied at each window.
+fn window<'a>(
+    rule: Rule,
+    firsts: &'a [u16; MOST_SCENES],
+    lasts: &'a [u16; MOST_SCENES],
+    i: usize,
+) -> Stretch
+    requires { ⌜ Known (byRule rule (now firsts) (now lasts)) × (i < windowCount rule) ⌝ }
+    ensures { λ r. ⌜ asWindow r ≡ windowAt (byRule rule (now (firsts .entry)) (now (lasts .entry))) i ⌝ }
 {
-    let rule = query.rule;
     match rule {
         Rule::Rows(_) => Stretch { first: 0, last: 0 },
         Rule::Share(_) => Stretch { first: 0, last: 0 },
         Rule::Every { length, start } => beat(length, start, i),
         Rule::Scenes(_) => Stretch {
-            first: query.firsts[i],
-            last: query.lasts[i],
+            first: firsts[i],
+            last: lasts[i],
         },
     }
 }
@@ -121,64 +125,8 @@ fn next(query: RuledQuery, stop: u16, i: usize, n: usize) -> usize
     }
 }
 
-// Puts the rows of one group behind those of a listing, from the group's records. A turn gives a row, or passes over all windows
-// up to the next event.
-fn add_group<'a>(
-    listing: Listing,
-    own_firsts: &'a [u16; MOST_RECORDS],
-    own_lasts: &'a [u16; MOST_RECORDS],
-    own_loads: &'a [u16; MOST_RECORDS],
-    own: usize,
-    group: u8,
-    query: RuledQuery,
-    n: usize,
-) -> Listing
-    requires { ⌜ own ≤ 128 ⌝ }
-    requires { ⌜ Known query × (n ≡ windowCount (query .rule)) ⌝ }
-    ensures { λ r. ⌜ r ≡ putAll listing (ownRows (query .kind) (ownsIn (now («own_firsts» .entry)) (now («own_lasts» .entry)) (now («own_loads» .entry)) own) group (windows query)) ⌝ }
-{
-    let mut rows = listing.rows;
-    let mut made = listing.count;
-    let mut i: usize = 0;
-    while i < n {
-        let frames = window(query, i);
-        let here = tally::survey(
-            own_firsts,
-            own_lasts,
-            own_loads,
-            own,
-            frames.first,
-            frames.last,
-        );
-        if here.count == 0 {
-            i = next(query, here.stop, i, n);
-            continue;
-        }
-        if made >= MOST_ROWS {
-            return Listing { rows, count: 65 };
-        }
-        rows[made] = Row {
-            group,
-            first: frames.first,
-            last: frames.last,
-            value: tally::value_at(
-                query.kind,
-                here,
-                own_firsts,
-                own_lasts,
-                own_loads,
-                own,
-                frames.first,
-                frames.last,
-            ),
-        };
-        made += 1;
-        i += 1;
-    }
-    Listing { rows, count: made }
-}
-
-// The rows of records by a query's windows, by group and then by window.
+// The rows of records by a query's windows, by group and then by window. A turn of the inner loop gives a row, or passes over all
+// windows up to the group's next event. Both loops stand in one function, so that the rows are put in their places and not copied.
 pub fn rows<'a>(
     groups: &'a [u8; MOST_RECORDS],
     firsts: &'a [u16; MOST_RECORDS],
@@ -195,10 +143,8 @@ pub fn rows<'a>(
     let mut own_firsts = [0u16; MOST_RECORDS];
     let mut own_lasts = [0u16; MOST_RECORDS];
     let mut own_loads = [0u16; MOST_RECORDS];
-    let mut listing = Listing {
-        rows: no_rows(),
-        count: 0,
-    };
+    let mut rows = no_rows();
+    let mut made: usize = 0;
     for group in 0..MOST_GROUP + 1 {
         let own = tally::select(
             groups,
@@ -211,17 +157,42 @@ pub fn rows<'a>(
             &mut own_lasts,
             &mut own_loads,
         );
-        let more = add_group(
-            listing,
-            &own_firsts,
-            &own_lasts,
-            &own_loads,
-            own,
-            group,
-            query,
-            n,
-        );
-        listing = more;
+        let mut i: usize = 0;
+        while i < n {
+            let frames = window(query.rule, &query.firsts, &query.lasts, i);
+            let here = tally::survey(
+                &own_firsts,
+                &own_lasts,
+                &own_loads,
+                own,
+                frames.first,
+                frames.last,
+            );
+            if here.count == 0 {
+                i = next(query, here.stop, i, n);
+                continue;
+            }
+            if made >= MOST_ROWS {
+                return Listing { rows, count: 65 };
+            }
+            rows[made] = Row {
+                group,
+                first: frames.first,
+                last: frames.last,
+                value: tally::value_at(
+                    query.kind,
+                    here,
+                    &own_firsts,
+                    &own_lasts,
+                    &own_loads,
+                    own,
+                    frames.first,
+                    frames.last,
+                ),
+            };
+            made += 1;
+            i += 1;
+        }
     }
-    listing
+    Listing { rows, count: made }
 }

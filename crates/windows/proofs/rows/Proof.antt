@@ -1,130 +1,304 @@
--- `windows::rows` meets its contract. The loop's invariant: what is listed, with the rows of the groups left behind it, is an
--- empty listing with all rows. Assumes nothing.
+-- `windows::rows` meets its contract. Both loops' invariant: the rows listed, and then those left of this group's windows and of
+-- the groups behind it, are all rows. Assumes nothing.
 use borrow.Author.Needs.{needs}
-use Prim.Native.Nat.{ℕ, suc, _-_, _≤_, _<_}
-use mathlib.Core.List.{List, []}
+use Prim.Native.Nat.{ℕ, _-_, _≤_, _<_}
+use mathlib.Core.List.{List}
 use mathlib.Core.Path.{_≡_, refl, sym, ap, subst, _∙_}
 use native.Mathlib.Numerals.{add-one}
 use native.Mathlib.Omega.{arith}
+use lib.ListN.{length}
+use Rattle.model.specs.Common.{listFrom}
 use Rattle.model.specs.Spans.{Span, groupCount}
-use Rattle.model.specs.Windows.{windows, spanRows}
-use Rattle.model.specs.Arrays.{spansIn, rowArray}
+use Rattle.model.specs.Log.{aggregated}
+use Rattle.model.specs.Calls.{rowOfSpan}
+use Rattle.model.specs.Windows.{Window, windowCount, windowAt, windows, spanRows}
+use Rattle.model.specs.Arrays.{spansIn}
 use Rattle.model.specs.declared.Row.{Row}
-use Rattle.tally.specs.Tally.{Sized, onlyOf}
+use Rattle.tally.specs.Tally.{Sized, Survey, onlyOf, loadsAt, stopAt}
 use Rattle.tally.specs.declared.Own.{Own}
-use Rattle.windows.specs.Listed.{ownRows, putAll, Lists}
+use Rattle.tally.proofs.Stops.{stop-from}
+use Rattle.windows.specs.Listed.{Lists, Skips}
 use Rattle.windows.specs.declared.Listing.{Listing}
-use Rattle.windows.proofs.Listings.{lists-all}
-use Rattle.windows.proofs.Meeting.{rowsFrom, all-groups, no-groups, put-group}
+use Rattle.windows.proofs.Rules.{forward, known-by-rule, window-by-rule}
+use Rattle.windows.proofs.Listings.{Made, made-none, made-next, made-all, made-past}
+use Rattle.windows.proofs.Meeting.{rowsFrom, rowsLeft, all-groups, no-groups, group-starts, group-ends, skip-on, row-left, some-left}
 use Rattle.windows.proofs.rows.Statement.{statement}
 use Rattle.windows.proofs.rows.Tie as tie
 
--- an empty listing
-abbrev none-listed : Listing
-none-listed = record { rows = rowArray []; count = 0 }
+abbrev Inv-loop2 : tie.InvT-loop2
+Inv-loop2 groups firsts lasts loads count query n own-firsts own-lasts own-loads rows₀ made₀ group own i₀ rows made i =
+    (i ≤ n)
+    × Made rows made (rowsLeft (query .kind) (spansIn groups firsts lasts loads count) (windowAt query) n group i)
+    (spanRows (query .kind) (spansIn groups firsts lasts loads count) (listFrom 0 n (windowAt query)))
+
+abbrev μ-loop2 : tie.MeasureT-loop2
+μ-loop2 groups firsts lasts loads count query n own-firsts own-lasts own-loads rows₀ made₀ group own i₀ rows made i = n - i
 
 abbrev Inv-loop : tie.InvT-loop
-Inv-loop groups firsts lasts loads count query n own-firsts₀ own-lasts₀ own-loads₀ listing₀ group₀ own-firsts own-lasts own-loads listing group =
+Inv-loop groups firsts lasts loads count query n own-firsts₀ own-lasts₀ own-loads₀ rows₀ made₀ group₀ own-firsts own-lasts own-loads rows made group =
     (group ≤ groupCount)
     × Sized own-firsts own-lasts own-loads
-    × (putAll listing (rowsFrom (query .kind) (spansIn groups firsts lasts loads count) (windows query) group)
-    ≡ putAll none-listed (spanRows (query .kind) (spansIn groups firsts lasts loads count) (windows query)))
+    × Made rows made (rowsFrom (query .kind) (spansIn groups firsts lasts loads count) (windowAt query) n group)
+    (spanRows (query .kind) (spansIn groups firsts lasts loads count) (listFrom 0 n (windowAt query)))
 
 abbrev μ-loop : tie.MeasureT-loop
-μ-loop groups firsts lasts loads count query n own-firsts₀ own-lasts₀ own-loads₀ listing₀ group₀ own-firsts own-lasts own-loads listing group =
+μ-loop groups firsts lasts loads count query n own-firsts₀ own-lasts₀ own-loads₀ rows₀ made₀ group₀ own-firsts own-lasts own-loads rows made group =
     groupCount - group
 
--- all records
-abbrev records : tie.Start Inv-loop μ-loop → List (Span ℕ)
+-- all records, and all rows
+abbrev records : tie.Start Inv-loop2 μ-loop2 Inv-loop μ-loop → List (Span ℕ)
 records s = spansIn (s .args .groups .now) (s .args .firsts .now) (s .args .lasts .now) (s .args .loads .now) (s .args .count)
 
-in-groups : (c : tie.In-loop Inv-loop μ-loop) → c .before .loop .group < groupCount
+abbrev all : tie.After-count-windows Inv-loop2 μ-loop2 Inv-loop μ-loop → List (Span ℕ)
+all m =
+    let q = m .before .args .t6 in
+    spanRows (q .kind) (records (m .before)) (listFrom 0 (m .count-windows .result) (windowAt q))
+
+whole : (m : tie.After-count-windows Inv-loop2 μ-loop2 Inv-loop μ-loop) (l : Listing) → Lists l (all m)
+    → Lists l (spanRows (m .before .args .t6 .kind) (records (m .before)) (windows (m .before .args .t6)))
+unfolding windows
+whole m l lists =
+    let q = m .before .args .t6 in
+    subst (λ (n : ℕ). Lists l (spanRows (q .kind) (records (m .before)) (listFrom 0 n (windowAt q)))) (m .count-windows .ensures) lists
+
+in-groups : (c : tie.In-loop Inv-loop2 μ-loop2 Inv-loop μ-loop) → c .before .loop .group < groupCount
 unfolding groupCount
 in-groups c = omega arith
 
-at-end : (c : tie.After-loop Inv-loop μ-loop) → groupCount ≤ c .before .loop .group
+at-end : (c : tie.After-loop Inv-loop2 μ-loop2 Inv-loop μ-loop) → groupCount ≤ c .before .loop .group
 unfolding groupCount
 at-end c = c .loop-test .left
 
--- the turn that ends with a call of `add_group`
-abbrev turn : tie.After-add-group Inv-loop μ-loop → tie.In-loop Inv-loop μ-loop
-turn c = c .before .before .before .before .before .before .before .before
+-- from a window's turn to that of its group
+abbrev turn : tie.After-select Inv-loop2 μ-loop2 Inv-loop μ-loop → tie.In-loop Inv-loop2 μ-loop2 Inv-loop μ-loop
+turn c = c .before .before .before .before
 
-count-windows-requires : tie.Need-count-windows-requires Inv-loop μ-loop
+abbrev counted : tie.After-select Inv-loop2 μ-loop2 Inv-loop μ-loop → tie.After-count-windows Inv-loop2 μ-loop2 Inv-loop μ-loop
+counted c = turn c .before .before .before
+
+-- a turn of the inner loop, from what is found of a window
+abbrev seen : tie.After-survey Inv-loop2 μ-loop2 Inv-loop μ-loop → tie.After-window Inv-loop2 μ-loop2 Inv-loop μ-loop
+seen v = v .before .before .before .before
+
+abbrev inner : tie.After-survey Inv-loop2 μ-loop2 Inv-loop μ-loop → tie.In-loop2 Inv-loop2 μ-loop2 Inv-loop μ-loop
+inner v = seen v .before .before .before .before
+
+count-windows-requires : tie.Need-count-windows-requires Inv-loop2 μ-loop2 Inv-loop μ-loop
 count-windows-requires c κs = c .pre .1
 
-no-rows-requires : tie.Need-no-rows-requires Inv-loop μ-loop
+no-rows-requires : tie.Need-no-rows-requires Inv-loop2 μ-loop2 Inv-loop μ-loop
 no-rows-requires c κs = search needs
 
-loop-holds : tie.Need-loop-holds Inv-loop μ-loop
+loop-holds : tie.Need-loop-holds Inv-loop2 μ-loop2 Inv-loop μ-loop
 loop-holds c =
-    let q = c .before .before .args .query in
-    let all = all-groups (q .kind) (records (c .before .before)) (windows q) in (
+    let m = c .before in
+    let q = m .before .args .t6 in (
       omega arith,
       (refl, refl, refl),
-      ap (λ (rows : List Row). putAll (record { rows = rows; count = 0 }) (rowsFrom (q .kind) (records (c .before .before)) (windows q) 0))
-          (c .no-rows .ensures)
-          ∙ ap (putAll none-listed) all,
+      subst (λ (rows : List Row). Made rows 0 (rowsFrom (q .kind) (records (m .before)) (windowAt q) (m .count-windows .result) 0) (all m))
+          (sym (c .no-rows .ensures))
+          (rw (all-groups (q .kind) (records (m .before)) (windowAt q) (m .count-windows .result)) (made-none (all m))),
     )
 
-select-requires : tie.Need-select-requires Inv-loop μ-loop
+select-requires : tie.Need-select-requires Inv-loop2 μ-loop2 Inv-loop μ-loop
 select-requires c κs =
     let h = c .before .before .before .before in (h .before .before .before .pre .0, h .loop .inv .1)
 
-add-group-requires : tie.Need-add-group-requires Inv-loop μ-loop
-add-group-requires c κs =
-    let v = c .before .before .before in
-    let m = v .before .before .before .before .before .before .before in
-    (v .select .ensures .0 .0, (m .before .pre .1, m .count-windows .ensures))
-
-add-group : tie.Need-add-group Inv-loop μ-loop
-unfolding groupCount
-add-group c = omega (arith, in-groups (turn c))
-
-loop-less : tie.Need-loop-less Inv-loop μ-loop
-loop-less c = omega (arith, in-groups (turn c))
-
-loop-again : tie.Need-loop-again Inv-loop μ-loop
-loop-again c =
-    let v = c .before .before .before .before in
+loop2-holds : tie.Need-loop2-holds Inv-loop2 μ-loop2 Inv-loop μ-loop
+loop2-holds c =
     let h = turn c .before in
-    let s = h .before .before .before in
-    let q = s .args .query in
-    let g = h .loop .group in
-    let made : c .add-group .result ≡ putAll (h .loop .listing) (ownRows (q .kind) (onlyOf g (records s)) g (windows q)) =
-    c .add-group .ensures
-    ∙ ap (λ (own : List Own). putAll (h .loop .listing) (ownRows (q .kind) own g (windows q))) (v .select .ensures .1) in
-    rw (add-one g) (
-      in-groups (turn c),
-      v .select .ensures .0 .1,
-      ap (λ (l : Listing). putAll l (rowsFrom (q .kind) (records s) (windows q) (suc g))) made
-          ∙ put-group (q .kind) (records s) (windows q) (h .loop .listing) g (in-groups (turn c))
-          ∙ h .loop .inv .2,
+    let m = counted c in
+    let q = m .before .args .t6 in (
+      omega arith,
+      subst (λ (left : List (Span ℕ)). Made (h .loop .rows) (h .loop .made) left (all m))
+          (group-starts (q .kind) (records (m .before)) (windowAt q) (m .count-windows .result) (h .loop .group) (in-groups (turn c)))
+          (h .loop .inv .2),
     )
 
-returns : tie.Need-returns Inv-loop μ-loop
-unfolding putAll
+-- the window and what is found of it, over the records of the group
+frames : (w : tie.After-window Inv-loop2 μ-loop2 Inv-loop μ-loop)
+    → record { first = w .window .result .first; last = w .window .result .last }
+    ≡ windowAt (counted (w .before .before .before .before .before .before) .before .args .t6) (w .before .before .before .before .before .loop2 .i)
+frames w = w .window .ensures ∙ window-by-rule _ _
+
+survey : (v : tie.After-survey Inv-loop2 μ-loop2 Inv-loop μ-loop)
+    → Survey (seen v .window .result .first) (seen v .window .result .last)
+    (onlyOf (turn (inner v .before .before) .before .loop .group) (records (counted (inner v .before .before) .before)))
+    (v .survey .result)
+survey v =
+    subst (λ (own : List Own). Survey (seen v .window .result .first) (seen v .window .result .last) own (v .survey .result))
+    (inner v .before .before .select .ensures .1)
+    (v .survey .ensures)
+
+window-requires : tie.Need-window-requires Inv-loop2 μ-loop2 Inv-loop μ-loop
+window-requires c κs =
+    let m = counted (c .before .before .before .before .before) in
+    (known-by-rule (m .before .args .t6) (m .before .pre .1), omega (arith, c .before .before .before .loop2-test .taken, m .count-windows .ensures))
+
+survey-requires : tie.Need-survey-requires Inv-loop2 μ-loop2 Inv-loop μ-loop
+survey-requires c κs = c .before .before .before .before .before .before .before .before .before .select .ensures .0 .0
+
+-- the last frame before the next event is no earlier than the window's first
+no-earlier : (v : tie.After-survey Inv-loop2 μ-loop2 Inv-loop μ-loop) → seen v .window .result .first ≤ v .survey .result .stop
+no-earlier v =
+    let own = onlyOf (turn (inner v .before .before) .before .loop .group) (records (counted (inner v .before .before) .before)) in
+    omega (arith, survey v .stops, stop-from (seen v .window .result .first) own (omega (arith, seen v .window .ok)))
+
+next-requires : tie.Need-next-requires Inv-loop2 μ-loop2 Inv-loop μ-loop
+next-requires c κs =
+    let v = c .before .before in
+    let m = counted (inner v .before .before) in (
+      m .before .pre .1,
+      inner v .loop2-test .taken,
+      m .count-windows .ensures,
+      omega (arith, no-earlier v, ap (λ (w : Window). w .first) (frames (seen v))),
+    )
+
+loop2-less : tie.Need-loop2-less Inv-loop2 μ-loop2 Inv-loop μ-loop
+loop2-less c = omega (arith, c .next .ensures .more, c .next .ensures .within)
+
+loop2-again : tie.Need-loop2-again Inv-loop2 μ-loop2 Inv-loop μ-loop
+loop2-again c =
+    let v = c .before .before .before in
+    let t = inner v in
+    let h = turn (t .before .before) .before in
+    let m = counted (t .before .before) in
+    let q = m .before .args .t6 in
+    let l = t .before .loop2 in
+    let own = onlyOf (h .loop .group) (records (m .before)) in
+    let unmet : length (loadsAt (windowAt q (l .i) .first) (windowAt q (l .i) .last) own) ≡ 0 =
+    rw (sym (frames (seen v))) (sym (survey v .counts) ∙ c .before .if1 .taken) in
+    let stop : v .survey .result .stop ≡ stopAt (windowAt q (l .i) .first) own =
+    survey v .stops ∙ ap (λ (w : Window). stopAt (w .first) own) (frames (seen v)) in
+    let skips = subst (λ (x : ℕ). Skips (windowAt q) x (l .i) (m .count-windows .result) (c .next .result)) stop (c .next .ensures) in
+    let in-windows : l .i < windowCount (q .rule) = omega (arith, t .loop2-test .taken, m .count-windows .ensures) in (
+      skips .within,
+      subst (λ (left : List (Span ℕ)). Made (l .rows) (l .made) left (all m))
+          (skip-on (q .kind) (records (m .before)) (windowAt q) (m .count-windows .result) (h .loop .group) (l .i) (c .next .result) (forward q (m .before .pre .1) (l .i) in-windows) unmet skips)
+          (l .inv .1),
+    )
+
+returns : tie.Need-returns Inv-loop2 μ-loop2 Inv-loop μ-loop
 returns c =
+    let v = c .before .before .before in
+    let t = inner v in
+    let h = turn (t .before .before) .before in
+    let m = counted (t .before .before) in
+    let q = m .before .args .t6 in
+    let l = t .before .loop2 in
+    let (r, more) = some-left (q .kind) (records (m .before)) (windowAt q) (m .count-windows .result) (h .loop .group) (l .i) (t .loop2-test .taken) _ _ (frames (seen v))
+    (λ none-met. c .before .if1 .left (survey v .counts ∙ none-met)) in
+    whole m _
+    (made-past (l .rows) (l .made) (all m) r _
+    (subst (λ (left : List (Span ℕ)). Made (l .rows) (l .made) left (all m)) more (l .inv .1))
+    (omega (arith, c .if2 .taken)))
+
+value-at-requires : tie.Need-value-at-requires Inv-loop2 μ-loop2 Inv-loop μ-loop
+value-at-requires c κs =
+    let v = c .before .before .before .before .before .before in
+    (inner v .before .before .select .ensures .0 .0, (v .survey .ensures, λ none-met. c .before .before .before .before .if1 .left (v .survey .ensures .counts ∙ none-met)))
+
+mul-rows : tie.Need-mul-rows Inv-loop2 μ-loop2 Inv-loop μ-loop
+mul-rows c = omega (arith, c .before .before .before .before .if2 .left)
+
+array-set-from-rows : tie.Need-array-set-from-rows Inv-loop2 μ-loop2 Inv-loop μ-loop
+array-set-from-rows c = c .before .before .before .before .if2 .left
+
+add-made : tie.Need-add-made Inv-loop2 μ-loop2 Inv-loop μ-loop
+add-made c = omega (arith, c .before .before .before .before .if2 .left)
+
+-- the turn that gives a row
+abbrev giving : tie.After-value-at Inv-loop2 μ-loop2 Inv-loop μ-loop → tie.After-survey Inv-loop2 μ-loop2 Inv-loop μ-loop
+giving c = c .before .before .before .before .before .before .before
+
+add-i : tie.Need-add-i Inv-loop2 μ-loop2 Inv-loop μ-loop
+add-i c =
+    let t = inner (giving c) in omega (arith, t .loop2-test .taken, counted (t .before .before) .count-windows .ok)
+
+loop2-less-2 : tie.Need-loop2-less-2 Inv-loop2 μ-loop2 Inv-loop μ-loop
+loop2-less-2 c = omega (arith, inner (giving c) .loop2-test .taken)
+
+loop2-again-2 : tie.Need-loop2-again-2 Inv-loop2 μ-loop2 Inv-loop μ-loop
+unfolding rowOfSpan
+loop2-again-2 c =
+    let v = giving c in
+    let t = inner v in
+    let h = turn (t .before .before) .before in
+    let m = counted (t .before .before) in
+    let q = m .before .args .t6 in
+    let l = t .before .loop2 in
+    let w = seen v .window .result in
+    let found = ap (λ (own : List Own). aggregated (q .kind) (loadsAt (w .first) (w .last) own)) (sym (t .before .before .select .ensures .1))
+    ∙ c .value-at .ensures in
+    rw (add-one (l .i), add-one (l .made)) (
+      omega (arith, t .loop2-test .taken),
+      made-next (l .rows) (l .made) (all m) _ _
+          (subst (λ (left : List (Span ℕ)). Made (l .rows) (l .made) left (all m))
+          (row-left (q .kind) (records (m .before)) (windowAt q) (m .count-windows .result) (h .loop .group) (l .i) (t .loop2-test .taken) (w .first) (w .last) (frames (seen v)) (c .value-at .result) found)
+          (l .inv .1))
+          (c .before .before .before .before .if2 .left),
+    )
+
+add-group : tie.Need-add-group Inv-loop2 μ-loop2 Inv-loop μ-loop
+unfolding groupCount
+add-group c = omega (arith, in-groups (turn (c .before .before)))
+
+loop-less : tie.Need-loop-less Inv-loop2 μ-loop2 Inv-loop μ-loop
+loop-less c = omega (arith, in-groups (turn (c .before .before)))
+
+loop-again : tie.Need-loop-again Inv-loop2 μ-loop2 Inv-loop μ-loop
+loop-again c =
+    let v = c .before .before in
+    let h = turn v .before in
+    let m = counted v in
+    let q = m .before .args .t6 in
+    let l = c .before .loop2 in
+    rw (add-one (h .loop .group)) (
+      in-groups (turn v),
+      v .select .ensures .0 .1,
+      subst (λ (left : List (Span ℕ)). Made (l .rows) (l .made) left (all m))
+          (group-ends (q .kind) (records (m .before)) (windowAt q) (m .count-windows .result) (h .loop .group) (l .i) (c .loop2-test .left))
+          (l .inv .1),
+    )
+
+returns-2 : tie.Need-returns-2 Inv-loop2 μ-loop2 Inv-loop μ-loop
+returns-2 c =
     let h = c .before in
-    let s = h .before .before .before in
-    let q = s .args .query in
-    let all = spanRows (q .kind) (records s) (windows q) in
-    let done : h .loop .listing ≡ putAll none-listed all =
-    ap (putAll (h .loop .listing)) (sym (no-groups (q .kind) (records s) (windows q) (h .loop .group) (at-end c))) ∙ h .loop .inv .2 in
-    subst (λ (l : Listing). Lists l all) (sym done) (lists-all all)
+    let m = h .before .before in
+    let q = m .before .args .t6 in
+    whole m _
+    (made-all (h .loop .rows) (h .loop .made) (all m)
+    (subst (λ (left : List (Span ℕ)). Made (h .loop .rows) (h .loop .made) left (all m))
+    (no-groups (q .kind) (records (m .before)) (windowAt q) (m .count-windows .result) (h .loop .group) (at-end c))
+    (h .loop .inv .2)))
 
 pub rows-spec : {M : Type 1} → statement M
 rows-spec =
     tie.close
     (tie.spec
+    Inv-loop2
+    μ-loop2
     Inv-loop
     μ-loop
     count-windows-requires
     no-rows-requires
     loop-holds
     select-requires
-    add-group-requires
+    loop2-holds
+    window-requires
+    survey-requires
+    next-requires
+    loop2-less
+    loop2-again
+    returns
+    value-at-requires
+    mul-rows
+    array-set-from-rows
+    add-made
+    add-i
+    loop2-less-2
+    loop2-again-2
     add-group
     loop-less
     loop-again
-    returns)
+    returns-2)

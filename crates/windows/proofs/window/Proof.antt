@@ -4,16 +4,22 @@ use Prim.Native.Nat.{_<_}
 use mathlib.Core.Path.{sym, _∙_}
 use native.Mathlib.Omega.{arith}
 use Rattle.model.specs.Windows.{scene, windowAt}
+use Rattle.model.specs.declared.RuledQuery.{RuledQuery}
+use Rattle.windows.specs.Listed.{byRule}
 use Rattle.windows.proofs.Rules.{some-frames, beat-count, beat-at, few-scenes, scene-count, scene-at}
 use Rattle.windows.proofs.window.Statement.{statement}
 use Rattle.windows.proofs.window.Tie as tie
+
+-- the query by the rule and the scenes given
+abbrev query : tie.Start → RuledQuery
+query s = byRule (s .args .rule) (s .args .firsts .now) (s .args .lasts .now)
 
 -- there is a place for the scene
 place : (c : tie.After-enum-told3) → c .before .before .args .i < 16
 place c =
     let s = c .before .before in
     let e = c .enum-told3 .given .1 in
-    omega (arith, few-scenes (s .args .t1) _ e (s .pre .0), scene-count (s .args .t1) _ e, s .pre .1)
+    omega (arith, few-scenes (query s) _ e (s .pre .0), scene-count (query s) _ e, s .pre .1)
 
 enum-told : tie.Need-enum-told
 enum-told c = search needs
@@ -28,7 +34,7 @@ beat-requires : tie.Need-beat-requires
 beat-requires c κs =
     let s = c .before .before .before in
     let e = c .before .rule .given .1 in
-    (some-frames (s .args .t1) _ _ e (s .pre .0), omega (arith, s .pre .1, beat-count (s .args .t1) _ _ e))
+    (some-frames (query s) _ _ e (s .pre .0), omega (arith, s .pre .1, beat-count (query s) _ _ e))
 
 enum-told-3 : tie.Need-enum-told-3
 enum-told-3 c = search needs
@@ -56,13 +62,13 @@ returns-2 c = rw (c .enum-told2 .given .1, windowAt)
 returns-3 : tie.Need-returns-3
 returns-3 c =
     let s = c .before .before .before .before in
-    c .beat .ensures ∙ sym (beat-at (s .args .t1) _ _ (c .before .before .rule .given .1) (s .args .i))
+    c .beat .ensures ∙ sym (beat-at (query s) _ _ (c .before .before .rule .given .1) (s .args .i))
 
 returns-4 : tie.Need-returns-4
 unfolding scene
 returns-4 c =
     let t = c .before .before in
-    sym (scene-at (t .before .before .args .t1) _ (t .enum-told3 .given .1) (t .before .before .args .i))
+    sym (scene-at (query (t .before .before)) _ (t .enum-told3 .given .1) (t .before .before .args .i))
 
 pub window-spec : {M : Type 1} → statement M
 window-spec =
