@@ -45,7 +45,7 @@
 #include <stdint.h>
 
 /* The version of the library that this header describes. */
-#define PACER_VERSION "0.11.0"
+#define PACER_VERSION "0.12.0"
 
 #ifdef __cplusplus
 extern "C" {
@@ -172,9 +172,9 @@ struct pacer_record_answer pacer_write_record(uint8_t group, uint16_t first, uin
  * Asks 1 (768 bytes of slot), 2, 3, 4, 5, then 6 to 9 for record after record, then 10.
  * Accepted: the first 768 bytes of the slot are header, rows and zeros; the others keep their
  * content. The answer gives the count of rows, their error and the number of cuts weighed.
- * A row's value is the whole number nearest to the mean of the values in it, the lower one at a
- * half; with PACER_GREATEST it is the greatest of them, so that no frame needs more than its row
- * says. The error is that of these values.
+ * A row's value is the whole number nearest to the mean of the values in it, the upper one at a
+ * half: the values 0 and 1 of two frames give 1. With PACER_GREATEST it is the greatest of them, so
+ * that no frame needs more than its row says. The error is that of these values.
  * Refused: the slot is unchanged; rows, error and weighed are 0.
  * `log` and `slot` must not overlap.
  */

@@ -246,6 +246,25 @@ static void test_mean(const uint8_t *log)
     SAME(pacer_lookup(slot, sizeof slot, 0, 4).value, 20333);
 }
 
+/* A slot that was written before, with one row of frames 0 and 1, is read as ever. */
+static void read_slot_of_before(uint8_t kind, uint8_t error, uint8_t value)
+{
+    const uint8_t front[] = {
+        0x50, 0x48, kind, 0x01, error, 0x00, 0x00, 0x00, 0x00, 0x00, 0x00, 0x00,
+        0x50, 0x52, 0x00, 0x00, 0x00, 0x01, 0x00, value, 0x00, 0x00, 0x00,
+    };
+    uint8_t slot[PACER_SLOT_BYTES] = {0};
+
+    memcpy(slot, front, sizeof front);
+    SAME(pacer_read(slot, sizeof slot).question, 0);
+    SAME(pacer_read(slot, sizeof slot).kind, kind);
+    SAME(pacer_read(slot, sizeof slot).error, error);
+    SAME(pacer_row_at(slot, sizeof slot, 0).found, 1);
+    SAME(pacer_row_at(slot, sizeof slot, 0).value, value);
+    SAME(pacer_lookup(slot, sizeof slot, 0, 1).covered, 1);
+    SAME(pacer_lookup(slot, sizeof slot, 0, 1).value, value);
+}
+
 /* Kind 3: rows hold the greatest value in them, and a share is taken of their own least error; a
  * slot of kind 3 of before, whose rows hold nearest means, is read as ever.
  */
@@ -264,10 +283,6 @@ static void test_greatest(const uint8_t *log)
         {PACER_SHARE, 17, 4, 400, 10, 210}, {PACER_SHARE, 26, 4, 400, 10, 210},
     };
     static uint8_t slot[PACER_SLOT_BYTES];
-    static const uint8_t of_before[] = {
-        0x50, 0x48, 0x03, 0x01, 0x01, 0x00, 0x00, 0x00, 0x00, 0x00, 0x00, 0x00,
-        0x50, 0x52, 0x00, 0x00, 0x00, 0x01, 0x00, 0x00, 0x00, 0x00, 0x00,
-    };
     uint8_t two[18];
 
     for (size_t i = 0; i < sizeof cases / sizeof cases[0]; i++) {
@@ -285,14 +300,43 @@ static void test_greatest(const uint8_t *log)
     SAME(pacer_write_record(0, 1, 1, 1, two + 9, 9).question, 0);
     ANSWER(pacer_query(PACER_GREATEST, PACER_ROWS, 1, two, 18, slot, sizeof slot), 0, 0, 1, 1, 0);
     SAME(pacer_lookup(slot, sizeof slot, 0, 0).value, 1);
-    memset(slot, 0, sizeof slot);
-    memcpy(slot, of_before, sizeof of_before);
-    SAME(pacer_read(slot, sizeof slot).question, 0);
-    SAME(pacer_read(slot, sizeof slot).kind, PACER_GREATEST);
-    SAME(pacer_read(slot, sizeof slot).error, 1);
-    SAME(pacer_row_at(slot, sizeof slot, 0).found, 1);
-    SAME(pacer_lookup(slot, sizeof slot, 0, 1).covered, 1);
-    SAME(pacer_lookup(slot, sizeof slot, 0, 1).value, 0);
+    read_slot_of_before(PACER_GREATEST, 1, 0);
+}
+
+/* Halves go up, by every kind but 3: two records over frames 0 and 1 and over frame 1, in one row.
+ * The error is that of the lower number, and a slot of before, which holds it, is read as ever.
+ */
+static void test_halves(void)
+{
+    static const struct {
+        uint8_t kind;
+        uint16_t loads[2];
+        uint32_t value;
+        uint64_t error;
+    } cases[] = {
+        /* The frames' values are 7 and 10, 1 and 2, 9 and 8, and by kind 3 again 7 and 10. */
+        {PACER_SUM, {7, 3}, 9, 5},
+        {PACER_COUNT, {0, 0}, 2, 1},
+        {PACER_LEAST, {9, 8}, 9, 1},
+        {PACER_GREATEST, {7, 10}, 10, 9},
+    };
+    static uint8_t slot[PACER_SLOT_BYTES];
+    uint8_t log[27];
+
+    for (size_t i = 0; i < sizeof cases / sizeof cases[0]; i++) {
+        SAME(pacer_write_record(0, 0, 1, cases[i].loads[0], log, 9).question, 0);
+        SAME(pacer_write_record(0, 1, 1, cases[i].loads[1], log + 9, 9).question, 0);
+        ANSWER(pacer_query(cases[i].kind, PACER_ROWS, 1, log, 18, slot, sizeof slot), 0, 0, 1,
+               cases[i].error, 0);
+        SAME(pacer_lookup(slot, sizeof slot, 0, 0).value, cases[i].value);
+    }
+    /* Means in hundredths: 33, which is rounded down as ever, and 0. */
+    SAME(pacer_write_record(0, 0, 1, 0, log, 9).question, 0);
+    SAME(pacer_write_record(0, 0, 0, 0, log + 9, 9).question, 0);
+    SAME(pacer_write_record(0, 0, 0, 1, log + 18, 9).question, 0);
+    ANSWER(pacer_query(PACER_MEAN, PACER_ROWS, 1, log, 27, slot, sizeof slot), 0, 0, 1, 545, 0);
+    SAME(pacer_lookup(slot, sizeof slot, 0, 0).value, 17);
+    read_slot_of_before(PACER_SUM, 5, 8);
 }
 
 /* The rows of a slot by windows: reader, list, walk and lookup. */
@@ -598,6 +642,7 @@ int main(void)
     test_query(log, slot, sizeof slot);
     test_mean(log);
     test_greatest(log);
+    test_halves();
     test_beats(log);
     test_scenes(log);
     test_read(slot, sizeof slot);

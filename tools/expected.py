@@ -92,17 +92,23 @@ def is_gap(segments, j):
 
 
 def nearest(mean):
-    """The whole number nearest to a fraction, the lower one at a half."""
-    below = mean.numerator // mean.denominator
-    return below + 1 if mean - below > Fraction(1, 2) else below
+    """The whole number nearest to a fraction, the upper one at a half."""
+    return math.floor(mean + Fraction(1, 2))
+
+
+def lower_nearest(mean):
+    """The whole number nearest to a fraction, the lower one at a half: as rows had it before halves
+    went up."""
+    return math.ceil(mean - Fraction(1, 2))
 
 
 class Blocks:
     """Row value and error of every block that no gap lies within, by the kind."""
 
-    def __init__(self, segments, kind):
+    def __init__(self, segments, kind, rounded):
         self.segments = segments
         self.kind = kind
+        self.rounded = rounded
         self.known = {}
 
     def row_value(self, j, i):
@@ -112,7 +118,7 @@ class Blocks:
             return max(value for _, _, _, value in block)
         length = sum(last - first + 1 for _, first, last, _ in block)
         total = sum((last - first + 1) * value for _, first, last, value in block)
-        return nearest(Fraction(total, length))
+        return self.rounded(Fraction(total, length))
 
     def error(self, j, i):
         """The error of the block of segments j+1 to i."""
@@ -131,9 +137,9 @@ class Blocks:
 class SplitTable:
     """E(k,i) and the cut kept for it, row after row, with the cuts weighed."""
 
-    def __init__(self, segments, kind):
+    def __init__(self, segments, kind, rounded):
         self.n = len(segments)
-        self.blocks = Blocks(segments, kind)
+        self.blocks = Blocks(segments, kind, rounded)
         self.gaps = [j for j in range(1, self.n) if is_gap(segments, j)]
         self.least = {}
         self.cut = {}
@@ -174,9 +180,9 @@ class SplitTable:
         return rows[::-1]
 
 
-def reduction(segments, kind, rule, bound):
+def reduction(segments, kind, rule, bound, rounded=nearest):
     """Rows, error and weighed cuts, or None for 'too few rows'."""
-    table = SplitTable(segments, kind)
+    table = SplitTable(segments, kind, rounded)
     n = table.n
     runs = len(table.gaps) + 1 if n else 0
     if n == 0:
@@ -508,6 +514,37 @@ def greatest():
         yield case(GREATEST, SHARE, p, log_of(LOG_G))
 
 
+def halves():
+    """Rows whose mean is half way between two whole numbers, and rows just beside a half."""
+    logs = [
+        # One row, and a half in each of several rows: of one group, and of several.
+        frames([0, 1]), frames([1, 0]), frames([7, 10]), frames([999, 1000]),
+        frames([0, 0, 1]), frames([0, 1, 1]), frames([0, 0, 1, 1]), frames([3, 4, 3, 4, 3, 4]),
+        frames([0, 1, 500, 501, 900, 907]), frames([0, 1], 1) + frames([4, 7], 2, 5),
+        frames([0, 1]) + frames([10, 13], 0, 9) + frames([8, 3], 7),
+        # A half of many frames, and one frame more on either side.
+        [(5, 0, 32767, 0), (5, 32768, 65535, 1)], [(5, 0, 32768, 0), (5, 32769, 65535, 1)],
+        [(5, 0, 32766, 0), (5, 32767, 65535, 1)],
+        # Counts of 1 and 2, 2 and 5; least and greatest loads, 1 apart and 3 apart.
+        [(0, 0, 3, 8), (0, 2, 3, 9)], [(0, 0, 3, 9), (0, 2, 3, 8)],
+        [(0, 0, 3, 8)] * 2 + [(0, 0, 1, 5)] * 3, [(6, 0, 9, 4), (6, 5, 9, 1), (6, 0, 4, 7)],
+        # Means in hundredths: 100 and 150 have 125; 33 and 0 have 16.5.
+        [(0, 0, 1, 1), (0, 1, 1, 2)], [(0, 0, 1, 0), (0, 0, 0, 0), (0, 0, 0, 1)],
+    ]
+    for log in logs:
+        for kind in KINDS:
+            for c in (1, 2, 3):
+                yield case(kind, ROWS, c, log_of(log))
+            yield case(kind, SHARE, 1000, log_of(log))
+    # Sums and counts of 127 and 128 records: 127,000 once and 128,000 1,999 times has the mean
+    # 127,999.5. Means in hundredths: 99,999 and 100,000.
+    both = 127 * [(3, 0, 1999, 1000)]
+    for more in ((1, 1999, 1000), (1, 1998, 1000), (2, 1999, 1000), (1000, 1999, 1)):
+        for kind in (0, 1):
+            yield case(kind, ROWS, 1, log_of(both + [(3, *more)]))
+    yield case(4, ROWS, 1, log_of([(2, 0, 1, 1000)] * 127 + [(2, 0, 0, 999)]))
+
+
 def at_random():
     """Small logs with many overlaps, equal values and ties."""
     numbers = random.Random(7)
@@ -659,7 +696,34 @@ def all_cases():
     """Every case once, in order."""
     return list(dict.fromkeys(itertools.chain(
         played_through(), published(), refusals(), short_inputs(), longest(), means(), greatest(),
-        at_random())))
+        halves(), at_random())))
+
+
+def check_halves():
+    """With the lower number at a half, the same cases are refused, and the others have the same
+    error, the same cuts weighed and rows of the same frames. A value is one less at a half, and
+    elsewhere, and by the kind of the greatest load, the same. Every other kind has halves."""
+    risen = dict.fromkeys(KINDS, 0)
+    for data in itertools.chain(played_through(), published(), halves(), at_random()):
+        kind, rule, bound, log = data[0], data[1], whole(data[2:4]), data[4:]
+        if not all(yes for _, _, yes in questions(kind, rule, bound, log)):
+            continue
+        segments = segments_of(log, kind)
+        now = reduction(segments, kind, rule, bound)
+        before = reduction(segments, kind, rule, bound, lower_nearest)
+        assert (now is None) == (before is None)
+        if now is None:
+            continue
+        assert now[1:] == before[1:]
+        assert [row[:3] for row in now[0]] == [row[:3] for row in before[0]]
+        for (group, first, last, value), (_, _, _, lower) in zip(now[0], before[0]):
+            block = [each for each in segments if each[0] == group and first <= each[1] <= last]
+            total = sum((to - begin + 1) * load for _, begin, to, load in block)
+            mean = Fraction(total, last - first + 1)
+            at_half = kind != GREATEST and mean.denominator == 2
+            assert value == lower + at_half
+            risen[kind] += at_half
+    assert all((risen[kind] > 0) == (kind != GREATEST) for kind in KINDS), risen
 
 
 def check_known():
@@ -681,6 +745,16 @@ def check_known():
         150, 33, 66, 50000]
     assert profile(case(4, ROWS, 4, g)) == (
         "4 25666667 16\n0 0 3 12500\n0 4 6 20333\n0 9 10 5000\n1 0 0 700\n")
+    # Halves go up, and nothing else does. Means of 1/2, 127,999.5 and 16.5, in several rows.
+    assert [nearest(Fraction(*mean)) for mean in ((1, 2), (3, 2), (1, 3), (2, 3), (5, 1))] == [
+        1, 2, 0, 1, 5]
+    assert profile(case(0, ROWS, 1, log_of(frames([0, 1])))) == "1 1 0\n0 0 1 1\n"
+    large = log_of(127 * [(3, 0, 1999, 1000)] + [(3, 1, 1999, 1000)])
+    assert profile(case(0, ROWS, 1, large)) == "1 1000000 0\n3 0 1999 128000\n"
+    assert profile(case(4, ROWS, 1, log_of([(0, 0, 1, 0), (0, 0, 0, 0), (0, 0, 0, 1)]))) == (
+        "1 545 0\n0 0 1 17\n")
+    several = profile(case(0, ROWS, 3, log_of(frames([0, 1, 500, 501, 900, 907])))).split("\n")
+    assert several[0].startswith("3 27 ") and several[1:4] == ["0 0 1 1", "0 2 3 501", "0 4 5 904"]
     # Rows of the greatest load, and shares of their own least error.
     assert profile(case(GREATEST, ROWS, 1, log_of(frames([0, 1])))) == "1 1 0\n0 0 1 1\n"
     assert profile(case(GREATEST, ROWS, 1, log_of(frames([0, 0, 0, 9, 9])))) == "1 243 0\n0 0 4 9\n"
@@ -697,16 +771,16 @@ def check_known():
     assert windows_answer(0, Beats(65535, 6), g) == (
         "505300010000000000000000" "505200" "0600" "ffff" "04010000")
     # The published reductions: first and last frames are the same, and a row value is the whole
-    # number nearest to the published mean.
+    # number nearest to the published mean, of which 467.5 is one.
     assert profile(case(0, ROWS, 4, log_of(PROJ))).split("\n")[1:5] == [
         "0 1 3 733", "0 4 7 375", "1 4 5 500", "1 7 8 500"]
     assert segments_of(log_of(PATIENTS), 0) == [
         [0, 1, 2, 1000], [0, 3, 3, 600], [0, 4, 4, 900], [0, 5, 6, 350], [0, 7, 7, 300],
         [0, 9, 12, 300], [1, 1, 5, 500], [1, 6, 6, 200], [1, 7, 8, 520]]
     assert profile(case(0, ROWS, 5, log_of(PATIENTS))).split("\n")[1:6] == [
-        "0 1 2 1000", "0 3 4 750", "0 5 7 333", "0 9 12 300", "1 1 8 467"]
+        "0 1 2 1000", "0 3 4 750", "0 5 7 333", "0 9 12 300", "1 1 8 468"]
     assert profile(case(0, ROWS, 4, log_of(PATIENTS))).split("\n")[1:5] == [
-        "0 1 4 875", "0 5 7 333", "0 9 12 300", "1 1 8 467"]
+        "0 1 4 875", "0 5 7 333", "0 9 12 300", "1 1 8 468"]
 
 
 def main(words):
@@ -717,6 +791,7 @@ def main(words):
         return 0
     if len(words) == 3 and words[0] == "--cases":
         cases = all_cases()
+        check_halves()
         data = b"".join(len(one).to_bytes(2, "little") + one for one in cases)
         if len(data) >= 262144:
             print("the file of cases is too long", file=sys.stderr)

@@ -1,6 +1,6 @@
 -- A row value by one division, the products of which an error is made in their ranges, and a block's error from its totals.
 -- Assumes nothing.
-use Prim.Native.Nat.{ℕ, suc, _+_, _-_, _*_, _/_, _≤_, _<_}
+use Prim.Native.Nat.{ℕ, suc, _+_, _*_, _/_, _≤_, _<_}
 use mathlib.Core.List.{List}
 use mathlib.Core.Path.{_≡_}
 use native.Mathlib.Nat.{mul-le-mul-right, le-antisymm, le-of-suc-le-suc, le-div-iff-mul-le, div-lt-iff-lt-mul}
@@ -19,18 +19,14 @@ use Rattle.blocks.specs.Meaning.{errorBy, errorFrom}
 pub nearest-none : (sum frames : ℕ) → sum ≤ mostValue * frames → frames ≡ 0 → 0 ≡ nearest sum frames
 nearest-none sum frames le none-here = omega (arith, nearest-le 0 sum frames (omega arith))
 
--- the mean with half a frame's worth added, rounded down; one less than half, so that a half is rounded down too
-pub nearest-by-division : (sum frames : ℕ) → 0 < frames → (2 * sum + frames - 1) / (2 * frames) ≡ nearest sum frames
+-- the mean with half a frame's worth added, rounded down
+pub nearest-by-division : (sum frames : ℕ) → 0 < frames → (2 * sum + frames) / (2 * frames) ≡ nearest sum frames
 nearest-by-division sum frames pos-frames =
-    by (nearest sum frames) (nearest-low sum frames pos-frames) (nearest-high sum frames pos-frames)
-  where
-    by : (n : ℕ) → 2 * sum ≤ (2 * n + 1) * frames → 2 * (n * frames) < 2 * sum + frames
-        → (2 * sum + frames - 1) / (2 * frames) ≡ n
-    by n low high =
-        let two : 0 < 2 * frames = omega arith in
-        le-antisymm
-        (le-of-suc-le-suc (div-lt-iff-lt-mul {x = 2 * sum + frames - 1} {y = suc n} two .1 (omega arith)))
-        (le-div-iff-mul-le {x = n} {y = 2 * sum + frames - 1} two .1 (omega arith))
+    let two : 0 < 2 * frames = omega arith in
+    le-antisymm
+    (le-of-suc-le-suc
+    (div-lt-iff-lt-mul {x = 2 * sum + frames} {y = suc (nearest sum frames)} two .1 (omega (arith, nearest-low sum frames pos-frames))))
+    (le-div-iff-mul-le {x = nearest sum frames} {y = 2 * sum + frames} two .1 (omega (arith, nearest-high sum frames pos-frames)))
 
 -- a row value of totals in range is in range
 pub value-in-range : (kind : ℕ) {r : ℕ} {t : Totals} → Room t → r ≡ valueFor kind t → r ≤ mostValue

@@ -64,7 +64,7 @@ impl Totals {
         }
     }
 
-    // The whole number nearest to the mean, the lower one at a half; 0 for no frames.
+    // The whole number nearest to the mean, the upper one at a half; 0 for no frames.
     fn nearest_mean(self) -> u64
         requires { ⌜ Room (totalsIn self) ⌝ }
         ensures { λ r. ⌜ r ≡ nearest (self .sum) (self .frames) ⌝ }
@@ -72,7 +72,7 @@ impl Totals {
         if self.frames == 0 {
             return 0;
         }
-        (2 * self.sum + self.frames - 1) / (2 * self.frames)
+        (2 * self.sum + self.frames) / (2 * self.frames)
     }
 
     // The row value: for kind 3 the greatest value, for every other kind the nearest mean.

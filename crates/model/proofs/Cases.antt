@@ -128,9 +128,9 @@ further-cases =
     case (span 0 0 0 0 ∷ span 0 1 1 1 ∷ span 0 2 2 1 ∷ []) (Rows 1 ∷ []) (span 0 0 0 0 ∷ span 0 1 2 1 ∷ [])
     (reduces 1 0 (span 0 0 2 1 ∷ []))
     ∷
-    -- a mean of 1/2 is rounded to the lower number
+    -- a mean of 1/2 is rounded to the upper number
     case (span 0 0 0 0 ∷ span 0 1 1 1 ∷ []) (Rows 1 ∷ []) (span 0 0 0 0 ∷ span 0 1 1 1 ∷ [])
-    (reduces 1 0 (span 0 0 1 0 ∷ []))
+    (reduces 1 0 (span 0 0 1 1 ∷ []))
     ∷
     -- the scan is left early: 5 cuts are weighed, and not 6
     case (span 0 0 0 0 ∷ span 0 1 1 1 ∷ span 0 2 2 2 ∷ span 0 3 3 100 ∷ []) (Rows 2 ∷ []) (span 0 0 0 0 ∷ span 0 1 1 1 ∷ span 0 2 2 2 ∷ span 0 3 3 100 ∷ [])

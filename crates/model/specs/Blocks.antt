@@ -3,7 +3,7 @@
 use Prim.Native.Nat.{ℕ, zero, suc, _+_, _-_, _*_, _/_, _%_, max}
 use mathlib.Core.Bool.{Bool, true, not, cond}
 use mathlib.Core.List.{List, [], _∷_}
-use lib.Dec.{ltb, eqb}
+use lib.Dec.{leb, eqb}
 use lib.IntN.{ℤ, pos, _-ℤ_, natAbs}
 use lib.ListN.{getD}
 use Rattle.model.specs.Common.{sumOf, listFrom}
@@ -58,9 +58,10 @@ unfoldable pub totals : List (Span ℕ) → Totals
 totals [] = empty
 totals (s ∷ b) = add (totalsOf (spanLength s) (s .value)) (totals b)
 
--- the whole number nearest to sum / frames, the lower one at a half (0 for no frames)
+-- the whole number nearest to sum / frames, the upper one at a half (0 for no frames)
 unfoldable pub nearest : ℕ → ℕ → ℕ
-nearest sum frames = cond (ltb frames (2 * (sum % frames))) (suc (sum / frames)) (sum / frames)
+nearest sum zero = 0
+nearest sum (suc n) = cond (leb (suc n) (2 * (sum % suc n))) (suc (sum / suc n)) (sum / suc n)
 
 -- the row value of a block with these totals: for kind 3 the block's greatest value, for every other kind the whole number
 -- nearest to its mean
@@ -81,12 +82,12 @@ errorWith z b = sumOf (λ s. spanLength s * squared (s .value) z) b
 unfoldable pub blockError : ℕ → List (Span ℕ) → ℕ
 blockError kind b = errorWith (pos (rowValue kind b)) b
 
--- the row of the block from j up to i
-unfoldable pub rowOf : ℕ → (ℕ → Span ℕ) → ℕ → ℕ → Span ℕ
-rowOf kind seg j i =
+-- the row of the block from j up to i, where `value` gives a block's row value
+unfoldable pub rowOf : {A B : Type 0} → (List (Span A) → B) → (ℕ → Span A) → ℕ → ℕ → Span B
+rowOf value seg j i =
     record {
       group = (seg j) .group;
       first = (seg j) .first;
       last = (seg (i - 1)) .last;
-      value = rowValue kind (block seg j i);
+      value = value (block seg j i);
     }

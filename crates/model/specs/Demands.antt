@@ -11,7 +11,7 @@ use lib.ListN.{length, getD, take}
 use Rattle.model.specs.Common.{sumOf}
 use Rattle.model.specs.Spans.{Span, groupCount, frameCount, spanLength, meets, adjacent}
 use Rattle.model.specs.Log.{records, meeting, sum, greatestKind, aggregated, value}
-use Rattle.model.specs.Blocks.{segmentAt, gap, totals, rowValue}
+use Rattle.model.specs.Blocks.{segmentAt, gap, totals, rowValue, errorWith, blockError}
 use Rattle.model.specs.Split.{Reduced, errorOf, gapBelow, runs, rowsOf, mostRows}
 use Rattle.model.specs.Reductions.{IsReduction, Merges, IsAnswer, reductionError}
 use Rattle.model.specs.Windows.{boundIn}
@@ -22,8 +22,9 @@ use Rattle.model.specs.Questions.{ruleQuestion, withBound, windowRows, r
 use Rattle.model.specs.Calls.{Counts, Header, writeOutcome, writtenBuffer, segmentsOutcome, filledList, logSegments, queryOutcome, querySlot, answerOf, countsOf, readOutcome, readRows, readListQuestions, readListOutcome, readList, stepOutcome, stepNext, lookupOutcome}
 use Rattle.model.specs.Calls.{ruledOutcome, ruledSlot, beatQuery}
 use Rattle.model.specs.Calls.{cutsWeighed, queryWeighed, boundOf, byLetterQuestions, letterOutcome, letterSlot, letterWeighed}
+use Rattle.model.specs.LowerHalves.{lowerValue, lowerError, lowerErrorOf, lowerAnswer, lowerOutcome}
 use Rattle.model.specs.Guarantee.{Choices, LeastOfFewest, BestRows, NoRows}
-use Rattle.model.specs.Fitting.{hits, due, FitsFor, rowLists}
+use Rattle.model.specs.Fitting.{hits, due, AtMost, FitsFor, rowLists}
 use Rattle.model.specs.declared.Bound.{Bound}
 use Rattle.model.specs.declared.Query.{Query}
 use Rattle.model.specs.declared.Rule.{Rule}
@@ -101,10 +102,18 @@ pub record MeanInHundredths (loads : List ℕ) (v : ℕ) : Type 0 where
   pub notAbove : v * length loads ≤ 100 * sum loads
   pub lessThanOneBelow : 100 * sum loads < suc v * length loads
 
--- the rows and error of a reduction with these cuts, by the kind's row values
-pub record Cut (kind : ℕ) (segs : List (Span ℕ)) (a : Reduced) (cuts : List ℕ) : Type 0 where
-  pub rows : a .rows ≡ rowsOf kind (segmentAt segs) (length segs) cuts
-  pub error : a .error ≡ reductionError (errorOf kind segs) (length segs) cuts
+-- the rows and error of a reduction with these cuts, where blocks have these row values and errors
+pub record CutBy (valueOf : List (Span ℕ) → ℕ) (err : ℕ → ℕ → ℕ) (segs : List (Span ℕ)) (a : Reduced) (cuts : List ℕ) : Type 0 where
+  pub rows : a .rows ≡ rowsOf valueOf (segmentAt segs) (length segs) cuts
+  pub error : a .error ≡ reductionError err (length segs) cuts
+
+-- by the kind's row values
+abbrev pub Cut : ℕ → List (Span ℕ) → Reduced → List ℕ → Type 0
+Cut kind segs a cuts = CutBy (rowValue kind) (errorOf kind segs) segs a cuts
+
+-- and by those of before halves went up
+abbrev pub LowerCut : ℕ → List (Span ℕ) → Reduced → List ℕ → Type 0
+LowerCut kind segs a cuts = CutBy (lowerValue kind) (lowerErrorOf kind segs) segs a cuts
 
 -- the reduction that a bound asks for, of these segments
 abbrev pub Reduces : ℕ → Bound → List (Span ℕ) → List ℕ → Type 0
@@ -164,6 +173,10 @@ pub record Demand2 : Type 0 where
   pub merging : (kind : ℕ) (log cuts : List ℕ)
       → IsReduction (gapBelow (logSegments kind log)) (length (logSegments kind log)) cuts
       ↔ Merges (gap (segmentAt (logSegments kind log))) (length (logSegments kind log)) cuts
+  -- no whole number that the kind allows has a smaller squared error than a block's row value: every one but for kind 3, and for
+  -- that those that no value of the block is above
+  pub least : (kind : ℕ) (b : List (Span ℕ)) (z : ℤ)
+      → ((s : Span ℕ) → List·Memᴰ s b → kind ≡ greatestKind → AtMost (s .value) z) → blockError kind b ≤ errorWith z b
   -- a block's row value lies between the least and the greatest value in it, and for kind 3 it is the greatest
   pub between : (kind lo hi : ℕ) (b : List (Span ℕ)) → 0 < (totals b) .frames
       → ((s : Span ℕ) → List·Memᴰ s b → (lo ≤ s .value) × (s .value ≤ hi)) → (lo ≤ rowValue kind b) × (rowValue kind b ≤ hi)
@@ -179,10 +192,10 @@ pub record Demand2 : Type 0 where
       → Reads (querySlot q log slot) byBound (q .kind) ((answerOf q log) .error) ((answerOf q log) .rows)
   pub roundTrip : (mark kind error : ℕ) (rows : List (Span ℕ)) (rest : List ℕ) → Storable mark kind error rows
       → Reads (slotBytes mark kind error rows ++ rest) mark kind error rows
-  -- a slot is read whichever kind's rule its rows were made by: one of kind 3 whose rows hold nearest whole numbers, as they were
-  -- written before, still reads
+  -- slots that were written before still read: with the lower number at a half and, whatever the kind, by the rule of any kind, as
+  -- those of kind 3 held nearest whole numbers at first
   pub stillRead : (rule kind : ℕ) (log cuts rest : List ℕ) (a : Reduced) → kindKnown kind ≡ true
-      → AllPass (logQuestions log) → Cut rule (logSegments kind log) a cuts
+      → AllPass (logQuestions log) → LowerCut rule (logSegments kind log) a cuts
       → IsReduction (gapBelow (logSegments kind log)) (length (logSegments kind log)) cuts → length cuts ≤ mostRows
       → Reads (slotBytes byBound kind (a .error) (a .rows) ++ rest) byBound kind (a .error) (a .rows)
   pub layout : (slot : List ℕ) (header : Header) → Bytes slot → readOutcome slot ≡ accepted header
@@ -193,6 +206,44 @@ pub record Demand2 : Type 0 where
   -- windows of one frame give the frames' own values
   pub frameByFrame : (kind start : ℕ) (log : List ℕ) (g f : ℕ) → start ≤ f
       → valueIn (windowRows (beatQuery kind 1 start) log) g f ≡ value kind (records log) g f
+
+-- Halves go up: what the upper number at a half changes, and what comes out equal. What was before is in `LowerHalves`.
+
+-- the mean of a block's values lies half way between k and k + 1
+abbrev pub HalfAbove : ℕ → List (Span ℕ) → Type 0
+HalfAbove k b = (0 < (totals b) .frames) × (2 * (totals b) .sum ≡ (2 * k + 1) * (totals b) .frames)
+
+-- a row now and the same row before: the same frames of the same group, with the value that it had or one more
+pub record Risen (row before : Span ℕ) : Type 0 where
+  pub group : row .group ≡ before .group
+  pub first : row .first ≡ before .first
+  pub last : row .last ≡ before .last
+  pub value : (row .value ≡ before .value) ⊎ (row .value ≡ suc (before .value))
+
+-- row by row, and as many of them
+abbrev pub AllRisen : List (Span ℕ) → List (Span ℕ) → Type 0
+AllRisen [] [] = Unit {0}
+AllRisen [] (b ∷ bs) = ⊥
+AllRisen (r ∷ rs) [] = ⊥
+AllRisen (r ∷ rs) (b ∷ bs) = Risen r b × AllRisen rs bs
+
+pub record HalvesUp : Type 0 where
+  -- at a half, for every kind but 3, the row value is the upper one of the two nearest whole numbers, and was the lower one
+  pub atHalf : (kind k : ℕ) (b : List (Span ℕ)) → (kind ≡ greatestKind → ⊥) → HalfAbove k b
+      → (rowValue kind b ≡ suc k) × (lowerValue kind b ≡ k)
+  -- for kind 3, and where there is no half, it is what it was
+  pub elsewhere : (kind : ℕ) (b : List (Span ℕ)) → (kind ≡ greatestKind) ⊎ ((k : ℕ) → HalfAbove k b → ⊥)
+      → rowValue kind b ≡ lowerValue kind b
+  -- every block has the error that it had
+  pub sameError : (kind : ℕ) (b : List (Span ℕ)) → blockError kind b ≡ lowerError kind b
+  -- every query is refused as it was, or has the number of rows, the error and the cuts weighed that it had
+  pub sameOutcome : (q : Query) (log : List ℕ) (room : ℕ) → queryOutcome q log room ≡ lowerOutcome q log room
+  -- the same cuts
+  pub sameCuts : (q : Query) (log : List ℕ) (room : ℕ) (counts : Counts) → queryOutcome q log room ≡ accepted counts
+      → (cuts : List ℕ) × Cut (q .kind) (logSegments (q .kind) log) (answerOf q log) cuts
+      × LowerCut (q .kind) (logSegments (q .kind) log) (lowerAnswer q log) cuts
+  -- and rows of the same frames, none of which has fallen or risen by more than 1
+  pub risen : (q : Query) (log : List ℕ) → AllRisen ((answerOf q log) .rows) ((lowerAnswer q log) .rows)
 
 -- Demand 3.
 

@@ -10,6 +10,7 @@ pub mod Windows
 pub mod Slot
 pub mod Questions
 pub mod Calls
+pub mod LowerHalves
 pub mod Room
 pub mod Arrays
 pub mod Guarantee

@@ -8,7 +8,7 @@ use lib.Dec.{ltb, leb, eqb}
 use lib.ListN.{length}
 use Rattle.model.specs.Common.{sumFrom}
 use Rattle.model.specs.Spans.{Span}
-use Rattle.model.specs.Blocks.{segmentAt, lastGap, runsTo, block, blockError, rowOf}
+use Rattle.model.specs.Blocks.{segmentAt, lastGap, runsTo, block, rowValue, blockError, rowOf}
 use Rattle.model.specs.declared.Bound.{Bound}
 use Rattle.model.specs.declared.Bound.the-variants.{Rows, Share}
 
@@ -82,9 +82,9 @@ cutsOf err low zero i = []
 cutsOf err low (suc k) i = (cell err low (suc k) i) .cut ∷ cutsOf err low k ((cell err low (suc k) i) .cut)
 
 -- the rows of these blocks, the first row first
-unfoldable pub rowsOf : ℕ → (ℕ → Span ℕ) → ℕ → List ℕ → List (Span ℕ)
-rowsOf kind seg i [] = []
-rowsOf kind seg i (j ∷ js) = rowsOf kind seg j js ++ (rowOf kind seg j i ∷ [])
+unfoldable pub rowsOf : {A B : Type 0} → (List (Span A) → B) → (ℕ → Span A) → ℕ → List ℕ → List (Span B)
+rowsOf value seg i [] = []
+rowsOf value seg i (j ∷ js) = rowsOf value seg j js ++ (rowOf value seg j i ∷ [])
 
 -- the fewest of 0 to K rows that have the least error
 unfoldable pub fewest : (ℕ → Option ℕ) → ℕ → ℕ
@@ -147,7 +147,7 @@ countFor kind bound segs = chosen bound (leastOf kind segs) (length segs) (runs 
 unfoldable pub reducedTo : ℕ → Bound → List (Span ℕ) → ℕ → Reduced
 reducedTo kind bound segs k =
     record {
-      rows = rowsOf kind (segmentAt segs) (length segs) (cutsOf (errorOf kind segs) (gapBelow segs) k (length segs));
+      rows = rowsOf (rowValue kind) (segmentAt segs) (length segs) (cutsOf (errorOf kind segs) (gapBelow segs) k (length segs));
       error = Option·getD (leastOf kind segs k) 0;
       weighed = weighed (errorOf kind segs) (gapBelow segs) (rowsTried bound (length segs) k) (length segs);
     }

@@ -8,7 +8,7 @@ use native.Mathlib.Omega.{arith}
 use lib.ListN.{length, drop}
 use Rattle.model.specs.Common.{listFrom}
 use Rattle.model.specs.Spans.{Span}
-use Rattle.model.specs.Blocks.{segmentAt, block, rowOf}
+use Rattle.model.specs.Blocks.{segmentAt, block, rowValue, rowOf}
 use Rattle.model.specs.Reductions.{IsReduction}
 use Rattle.model.specs.Room.{Measured}
 use Rattle.model.specs.Slot.{byBound}
@@ -16,8 +16,8 @@ use Rattle.model.specs.Split.{Reduced, least, cutsOf, rowsOf, chosen, errorOf, 
 use Rattle.model.specs.declared.Bound.{Bound}
 use Rattle.theory.proofs.Tests.{true≢false}
 use Rattle.theory.proofs.Table.{cutsOf-length}
-use Rattle.theory.proofs.Stored.{rows-length}
-use Rattle.theory.proofs.Demands.{reduced-to}
+use Rattle.theory.proofs.Blocks.{rows-length}
+use Rattle.theory.proofs.Answer.{reduced-to}
 use Rattle.theory.proofs.SlotLaws.{length-listFrom}
 use Rattle.theory.proofs.Lists.{listFrom-cong, segment-at}
 use Rattle.choice.proofs.Meeting.{byRows}
@@ -34,7 +34,7 @@ use Rattle.rows.proofs.Cut.{ordered, rows-between}
 
 -- rows go by the segments of their blocks only
 rows-cong : (kind : ℕ) (h k : ℕ → Span ℕ) (low : ℕ → ℕ) (n : ℕ) → ((x : ℕ) → x < n → h x ≡ k x) → (i : ℕ) (cuts : List ℕ) → i ≤ n
-    → IsReduction low i cuts → rowsOf kind h i cuts ≡ rowsOf kind k i cuts
+    → IsReduction low i cuts → rowsOf (rowValue kind) h i cuts ≡ rowsOf (rowValue kind) k i cuts
 unfolding rowsOf rowOf block
 rows-cong kind h k low n e i [] le is = refl
 rows-cong kind h k low n e i (j ∷ js) le is =
@@ -102,7 +102,7 @@ module _ (kind : ℕ) (h : ℕ → Span ℕ) (n : ℕ) (ok : Measured (listFrom 
     unfolding cutsFor
     stored = g .cuts ∙ rw (chosen-is, cutsFor)
 
-    rows-are : rowsBetween kind h cuts k n ≡ rowsOf kind (segmentAt segs) n cuts-of
+    rows-are : rowsBetween kind h cuts k n ≡ rowsOf (rowValue kind) (segmentAt segs) n cuts-of
     rows-are =
         rw stored
         ((rw count-is at (rows-between kind h n cuts-of (drop k before)))
@@ -114,8 +114,8 @@ module _ (kind : ℕ) (h : ℕ → Span ℕ) (n : ℕ) (ok : Measured (listFrom 
         let here = rw (chosen-is, reductionFor) at (g .answer) in
         rw here (record {
           d = reducedTo kind bound segs k;
-          is = reduced-to kind bound segs k e;
-          count = rw size (sym (rows-length kind (segmentAt segs) n cuts-of ∙ count-is));
+          is = reduced-to kind segs bound k e;
+          count = rw size (sym (rows-length (rowValue kind) (segmentAt segs) n cuts-of ∙ count-is));
           error = rw size;
           weighed = rw size;
           counted = e;

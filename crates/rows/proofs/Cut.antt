@@ -12,7 +12,7 @@ use lib.Seq.{append-snoc, getD-at, set-at}
 use borrow.Author.Tests.{lt-ltb, le-ltb}
 use Rattle.model.specs.Common.{listFrom}
 use Rattle.model.specs.Spans.{Span, nowhere}
-use Rattle.model.specs.Blocks.{rowOf}
+use Rattle.model.specs.Blocks.{rowValue, rowOf}
 use Rattle.model.specs.Calls.{rowOfSpan}
 use Rattle.model.specs.Arrays.{rowArray}
 use Rattle.model.specs.Split.{rowsOf}
@@ -73,7 +73,7 @@ ordered low i (j ∷ js) rest is b lt =
 
 -- the rows between them are the reduction's
 pub rows-between : (kind : ℕ) (h : ℕ → Span ℕ) (i : ℕ) (js rest : List ℕ)
-    → rowsBetween kind h (ascending js ++ rest) (length js) i ≡ rowsOf kind h i js
+    → rowsBetween kind h (ascending js ++ rest) (length js) i ≡ rowsOf (rowValue kind) h i js
 unfolding rowsBetween rowBetween rowsOf listFrom
 rows-between kind h i [] rest = refl
 rows-between kind h i (j ∷ js) rest =
@@ -100,7 +100,7 @@ stored h next made row lt before is =
 -- the row from cut `next` to the end of its block
 pub row-stored : (kind : ℕ) (seg : ℕ → Span ℕ) (cuts : List ℕ) (count n next from to : ℕ) (made : List Row) (row : Row) → next < 64
     → made ≡ rowArray (listFrom 0 next (rowBetween kind seg cuts count n)) → from ≡ getD cuts next 0
-    → to ≡ endBefore cuts count n (next + 1) → row ≡ rowOfSpan (rowOf kind seg from to)
+    → to ≡ endBefore cuts count n (next + 1) → row ≡ rowOfSpan (rowOf (rowValue kind) seg from to)
     → set made next row ≡ rowArray (listFrom 0 (next + 1) (rowBetween kind seg cuts count n))
 unfolding rowBetween
 row-stored kind seg cuts count n next from to made row lt before is-from is-to is-row =

@@ -5,7 +5,7 @@ use model::Row;
 ghost use mathlib.Core.Path.{_≡_};
 ghost use Prim.Native.Nat.{_<_, _≤_};
 ghost use Rattle.model.specs.Calls.{rowOfSpan};
-ghost use Rattle.model.specs.Blocks.{rowOf};
+ghost use Rattle.model.specs.Blocks.{rowValue, rowOf};
 ghost use Rattle.model.specs.Arrays.{spanIn, rowArray};
 ghost use Rattle.measures.specs.Held.{Measurable};
 ghost use Rattle.rows.specs.Between.{endBefore, Ordered, rowsBetween};
@@ -21,7 +21,7 @@ fn row(
     kind: u8,
 ) -> Row
     requires { ⌜ (j < i) × Measurable (now firsts) (now lasts) (now values) i ⌝ }
-    ensures { λ r. ⌜ r ≡ rowOfSpan (rowOf kind (spanIn (now (groups .entry)) (now (firsts .entry)) (now (lasts .entry)) (now (values .entry))) j i) ⌝ }
+    ensures { λ r. ⌜ r ≡ rowOfSpan (rowOf (rowValue kind) (spanIn (now (groups .entry)) (now (firsts .entry)) (now (lasts .entry)) (now (values .entry))) j i) ⌝ }
 {
     let last_segment = i - 1;
     let block = measures::block_totals(firsts, lasts, values, j, i);

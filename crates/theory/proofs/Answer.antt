@@ -13,8 +13,8 @@ use Rattle.model.specs.Common.{isSome}
 use Rattle.model.specs.Spans.{Span, groupCount, frameCount, meets, holds}
 use Rattle.model.specs.Log.{greatestKind, value}
 use Rattle.model.specs.Segments.{segments}
-use Rattle.model.specs.Blocks.{segmentAt, rowOf, blockError, errorWith}
-use Rattle.model.specs.Split.{cutsOf, rowsOf, errorOf, gapBelow, runs, leastOf, countFor, reducedTo}
+use Rattle.model.specs.Blocks.{segmentAt, rowValue, rowOf, blockError, errorWith}
+use Rattle.model.specs.Split.{cutsOf, rowsOf, errorOf, gapBelow, runs, leastOf, countFor, reducedTo, reduced}
 use Rattle.model.specs.Reductions.{IsReduction, reductionError}
 use Rattle.model.specs.Slot.{valueIn}
 use Rattle.model.specs.Guarantee.{LeastOfFewest, BestRows, NoRows}
@@ -37,18 +37,25 @@ use Rattle.theory.proofs.Guarantee as guarantee
 -- ---- the answer is the reduction that the bound asks for
 
 module _ (kind : ℕ) (segs : List (Span ℕ)) where
+  pub reduced-to : (bound : Bound) (k : ℕ) → countFor kind bound segs ≡ some k
+      → reduced kind bound segs ≡ some (reducedTo kind bound segs k)
+  unfolding reduced
+  reduced-to bound k h = rw (h, reduced)
+
   pub widens : (a b i : ℕ) → a ≤ b → b < i → errorOf kind segs b i ≤ errorOf kind segs a i
   unfolding errorOf blockError errorWith errorIn costOf rowCost
   widens = wider (rowCost kind) (segmentAt segs)
 
+  -- the cuts of k rows, read back from the split table
+  abbrev pub cutsTo : ℕ → List ℕ
+  cutsTo k = cutsOf (errorOf kind segs) (gapBelow segs) k (length segs)
+
   pub answer-reduces : (bound : Bound) (k : ℕ) → countFor kind bound segs ≡ some k
-      → (cuts : List ℕ) × Cut kind segs (reducedTo kind bound segs k) cuts × Reduces kind bound segs cuts × (length cuts ≡ k)
+      → Cut kind segs (reducedTo kind bound segs k) (cutsTo k) × Reduces kind bound segs (cutsTo k) × (length (cutsTo k) ≡ k)
   unfolding countFor leastOf gapBelow runs reducedTo
   answer-reduces bound k h =
-      let cuts : List ℕ = cutsOf (errorOf kind segs) (gapBelow segs) k (length segs) in
       let (t, found, reduces) =
       guarantee.answer-reduces (segmentAt segs) (length segs) (errorOf kind segs) widens bound k h in (
-        cuts,
         record {
           rows = refl;
           error = rw found (sym (sound (errorOf kind segs) (gapBelow segs) widens k (length segs) t found .1));
@@ -60,11 +67,11 @@ module _ (kind : ℕ) (segs : List (Span ℕ)) where
 -- ---- reductions and fitting lists
 
 whole-rows : (kind : ℕ) (seg : ℕ → Span ℕ) (i : ℕ) (cuts : List ℕ)
-    → map whole (rowsOf kind seg i cuts) ≡ bestRows (rowCost kind) seg i cuts
-unfolding rowsOf bestRows rowOf bestRow whole rowCost
+    → map whole (rowsOf (rowValue kind) seg i cuts) ≡ bestRows (rowCost kind) seg i cuts
+unfolding rowsOf rowOf whole rowCost
 whole-rows kind seg i [] = refl
 whole-rows kind seg i (j ∷ js) =
-    map-append whole (rowsOf kind seg j js) (rowOf kind seg j i ∷ [])
+    map-append whole (rowsOf (rowValue kind) seg j js) (rowOf (rowValue kind) seg j i ∷ [])
     ∙ ap (λ l. l ++ (bestRow (rowCost kind) seg j i ∷ [])) (whole-rows kind seg j js)
 
 module _ (kind : ℕ) (rs : List (Span ℕ)) where
@@ -82,9 +89,9 @@ module _ (kind : ℕ) (rs : List (Span ℕ)) where
 
   -- the rows of a reduction are a list that fits for the kind, with the reduction's error
   reach : (cuts : List ℕ) → IsReduction (gapBelow segs) n cuts
-      → FitsFor kind val (map whole (rowsOf kind seg n cuts))
-      × (squaredError val (map whole (rowsOf kind seg n cuts)) ≡ reductionError (errorOf kind segs) n cuts)
-      × (length (map whole (rowsOf kind seg n cuts)) ≡ length cuts)
+      → FitsFor kind val (map whole (rowsOf (rowValue kind) seg n cuts))
+      × (squaredError val (map whole (rowsOf (rowValue kind) seg n cuts)) ≡ reductionError (errorOf kind segs) n cuts)
+      × (length (map whole (rowsOf (rowValue kind) seg n cuts)) ≡ length cuts)
   unfolding gapBelow squaredError errorUnder errorOf blockError errorWith errorIn costOf rowCost segments
   reach cuts is =
       rw (whole-rows kind seg n cuts) (
@@ -111,14 +118,14 @@ module _ (kind : ℕ) (rs : List (Span ℕ)) where
   by-reductions =
       record {
         widens = widens kind segs;
-        made = λ cuts. map whole (rowsOf kind seg n cuts);
+        made = λ cuts. map whole (rowsOf (rowValue kind) seg n cuts);
         reach = reach;
         beaten = beaten;
       }
 
   -- the best rows
   pub best-rows : (bound : Bound) (cuts : List ℕ) → Reduces kind bound segs cuts
-      → BestRows (rowLists kind val) bound (reductionError (errorOf kind segs) n cuts) (map whole (rowsOf kind seg n cuts))
+      → BestRows (rowLists kind val) bound (reductionError (errorOf kind segs) n cuts) (map whole (rowsOf (rowValue kind) seg n cuts))
   unfolding by-reductions gapBelow runs
   best-rows = guarantee.best-choice by-reductions
 

@@ -1,14 +1,16 @@
--- Laws of blocks: how a block grows, that totals of neighbours add, and that a wider block costs no less under any cost.
+-- Laws of blocks: how a block grows, that each has its row, that totals of neighbours add, and that a wider block costs no less under any cost.
 -- Assumes nothing.
 use Prim.Native.Nat.{ℕ, zero, suc, _-_, _≤_, _<_, max}
 use mathlib.Core.List.{List, [], _∷_, _++_, List·Memᴰ·tail}
-use mathlib.Core.Path.{_≡_, sym, ap, _∙_}
+use mathlib.Core.Path.{_≡_, refl, sym, ap, _∙_}
 use native.Mathlib.Decide.{ℕ-discrete}
 use native.Mathlib.Nat.{le-refl, le-trans, zero-add, add-assoc, zero-max}
 use native.Mathlib.Omega.{arith}
+use lib.ListN.{length, length-append}
 use Rattle.model.specs.Common.{sumOf, listFrom}
 use Rattle.model.specs.Spans.{Span, spanLength}
 use Rattle.model.specs.Blocks.{block, Totals, empty, totalsOf, add, totals}
+use Rattle.model.specs.Split.{rowsOf}
 use Rattle.theory.proofs.Cost.{Cost, costOf, errorIn}
 
 -- a block that is not empty begins with its first segment
@@ -17,6 +19,13 @@ unfolding block listFrom
 block-cons seg j i lt =
     let size : i - j ≡ suc (i - suc j) = omega arith in
     rw size
+
+-- a row for each block
+pub rows-length : {A B : Type 0} (valueOf : List (Span A) → B) (seg : ℕ → Span A) (i : ℕ) (cuts : List ℕ)
+    → length (rowsOf valueOf seg i cuts) ≡ length cuts
+unfolding rowsOf
+rows-length valueOf seg i [] = refl
+rows-length valueOf seg i (j ∷ js) = let ih = rows-length valueOf seg j js in simp length-append (omega arith)
 
 -- an empty block has no segment
 pub block-empty : {A : Type 0} (seg : ℕ → Span A) (i : ℕ) → block seg i i ≡ []

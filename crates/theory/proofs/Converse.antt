@@ -9,18 +9,20 @@ use mathlib.Core.Path.{_≡_, refl, sym, ap, _∙_, subst}
 use native.Mathlib.Omega.{arith}
 use native.Mathlib.Nat.{le-refl, zero-add, add-zero, suc-add, add-suc}
 use native.Mathlib.Decide.{ℕ-discrete}
-use lib.ListN.{length, length-append}
+use lib.ListN.{length}
 use borrow.Author.Tests.{not-false}
 use Rattle.model.specs.Common.{sumOf, listFrom}
 use Rattle.model.specs.Spans.{Span, spanLength, meets, holds, adjacent}
 use Rattle.model.specs.Segments.{segmentsOf}
-use Rattle.model.specs.Blocks.{gap, lastGap, block}
+use Rattle.model.specs.Blocks.{gap, lastGap, block, rowOf}
+use Rattle.model.specs.Split.{rowsOf}
 use Rattle.model.specs.Reductions.{IsReduction, reductionError}
 use Rattle.model.specs.Slot.{valueIn}
 use Rattle.model.specs.Fitting.{hits, due, Fits, frameCost, overFrames}
 use Rattle.theory.proofs.Tests.{cases, holds-true, adjacent-true}
 use Rattle.theory.proofs.Sums.{sumOf-cong, sumOf-append, overFrames-cong, overFrames-sumOf, overFrames-holds}
 use Rattle.theory.proofs.Cost.{Cost, costOf, errorIn, bestRow, bestRows, Allowed, errorUnder}
+use Rattle.theory.proofs.Blocks.{rows-length}
 use Rattle.theory.proofs.Frames.{worth, hits-sum, holds-joined, Piece, exact, ordered, constant}
 
 -- ---- elements of a list by number
@@ -101,18 +103,12 @@ module _ {A : Type 0} (seg : ℕ → Span A) where
 -- ---- the rows of a reduction
 
 module _ {V′ L : Type 0} (C : Cost V′ L) (seg : ℕ → Span V′) where
-  -- a row for each block
-  pub rows-count : (cuts : List ℕ) (i : ℕ) → length (bestRows C seg i cuts) ≡ length cuts
-  unfolding bestRows
-  rows-count [] i = refl
-  rows-count (j ∷ js) i = let ih = rows-count js j in simp length-append (omega arith)
-
   -- what every block's row has, every row has
   pub rows-every : (P : Span L → Type 0) (n : ℕ)
       → ((j i : ℕ) → j < i → i ≤ n → lastGap seg i ≤ j → P (bestRow C seg j i))
       → (cuts : List ℕ) (i : ℕ) → i ≤ n → IsReduction (lastGap seg) i cuts
       → (r : Span L) → List·Memᴰ r (bestRows C seg i cuts) → P r
-  unfolding bestRows
+  unfolding rowsOf
   rows-every P n h [] i le red r m = absurd (List·Memᴰ·not-nil m)
   rows-every P n h (j ∷ js) i le red r m =
       let below = red .0 in
@@ -125,7 +121,7 @@ module _ {V′ L : Type 0} (C : Cost V′ L) (seg : ℕ → Span V′) where
       → ((j i : ℕ) → j < i → i ≤ n → lastGap seg i ≤ j → u (bestRow C seg j i) ≡ err j i)
       → (cuts : List ℕ) (i : ℕ) → i ≤ n → IsReduction (lastGap seg) i cuts
       → sumOf u (bestRows C seg i cuts) ≡ reductionError err i cuts
-  unfolding bestRows reductionError sumOf
+  unfolding rowsOf reductionError sumOf
   rows-sum u err n h [] i le red = refl
   rows-sum u err n h (j ∷ js) i le red =
       let below = red .0 in
@@ -252,7 +248,7 @@ module _ {V′ L : Type 0} (C : Cost V′ L) (val : ℕ → ℕ → Option V′)
   row-holds : (j i : ℕ) → j < i → i ≤ n → lastGap seg i ≤ j
       → ((bestRow C seg j i) .first ≤ (bestRow C seg j i) .last)
       × ((g f c : ℕ) → cond (holds (bestRow C seg j i) g f) c 0 ≡ sumOf (λ s. cond (holds s g f) c 0) (block seg j i))
-  unfolding bestRow block
+  unfolding rowOf block
   row-holds j i below le low =
       let longer : suc (i - suc j) ≡ i - j = omega arith in
       let end : i - 1 ≡ j + (i - suc j) = omega arith in
@@ -297,7 +293,7 @@ module _ {V′ L : Type 0} (C : Cost V′ L) (val : ℕ → ℕ → Option V′)
         }
 
     pub allowed : Allowed C val (bestRows C seg n cuts)
-    unfolding bestRow
+    unfolding rowOf
     allowed g f v z e label =
         let x = valueIn-member g f (bestRows C seg n cuts) z label in
         rw (x .3) at (rows-every C seg (λ r. holds r g f ≡ true → C .ok v (r .value)) n of-block cuts n (le-refl n) red
@@ -312,7 +308,7 @@ module _ {V′ L : Type 0} (C : Cost V′ L) (val : ℕ → ℕ → Option V′)
             rw same at (C .best-ok (block seg j i) (y .0) (y .1))
 
     pub error : errorUnder C val groups frames (bestRows C seg n cuts) ≡ reductionError (errorIn C seg) n cuts
-    unfolding errorUnder errorIn costOf bestRow
+    unfolding errorUnder errorIn costOf rowOf
     error =
         overFrames-cong groups frames _ _
         (λ g f a b. one-row g f (C .cost) (val g f) (bestRows C seg n cuts) (rw (fits .exact g f) (due-le (val g f))))
@@ -322,4 +318,4 @@ module _ {V′ L : Type 0} (C : Cost V′ L) (val : ℕ → ℕ → Option V′)
         (λ j i p q l. row-error (λ v. C .cost v (C .best (block seg j i))) j i p q l) cuts n (le-refl n) red
 
     pub count : length (bestRows C seg n cuts) ≡ length cuts
-    count = rows-count C seg cuts n
+    count = rows-length (C .best) seg n cuts

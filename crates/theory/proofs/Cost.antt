@@ -1,14 +1,15 @@
 -- What the argument for the best rows asks of values, labels and costs. A value is what a frame has, a label what a row
 -- holds. Here values are numbers, labels whole numbers and the cost is the squared difference; every other rule for row
 -- values is one more instance. Assumes nothing.
-use Prim.Native.Nat.{ℕ, _*_, _-_, _≤_}
+use Prim.Native.Nat.{ℕ, _*_, _≤_}
 use mathlib.Core.Bool.{Bool, true}
-use mathlib.Core.List.{List, [], _∷_, _++_, List·Memᴰ}
+use mathlib.Core.List.{List, List·Memᴰ}
 use mathlib.Core.Option.{Option, some}
 use mathlib.Core.Path.{_≡_}
 use Rattle.model.specs.Common.{sumOf}
 use Rattle.model.specs.Spans.{Span, spanLength}
-use Rattle.model.specs.Blocks.{block}
+use Rattle.model.specs.Blocks.{block, rowOf}
+use Rattle.model.specs.Split.{rowsOf}
 use Rattle.model.specs.Slot.{valueIn}
 use Rattle.model.specs.Fitting.{frameCost, overFrames}
 
@@ -33,18 +34,11 @@ module _ {V′ L : Type 0} (C : Cost V′ L) where
   errorIn seg j i = costOf (C .cost) (C .best (block seg j i)) (block seg j i)
 
   -- the row of the block from j up to i, and the rows of a reduction
-  unfoldable pub bestRow : (ℕ → Span V′) → ℕ → ℕ → Span L
-  bestRow seg j i =
-      record {
-        group = (seg j) .group;
-        first = (seg j) .first;
-        last = (seg (i - 1)) .last;
-        value = C .best (block seg j i);
-      }
+  abbrev pub bestRow : (ℕ → Span V′) → ℕ → ℕ → Span L
+  bestRow = rowOf (C .best)
 
-  unfoldable pub bestRows : (ℕ → Span V′) → ℕ → List ℕ → List (Span L)
-  bestRows seg i [] = []
-  bestRows seg i (j ∷ js) = bestRows seg j js ++ (bestRow seg j i ∷ [])
+  abbrev pub bestRows : (ℕ → Span V′) → ℕ → List ℕ → List (Span L)
+  bestRows = rowsOf (C .best)
 
   -- each row's label is allowed for the frames that it contains
   abbrev pub Allowed : (ℕ → ℕ → Option V′) → List (Span L) → Type 0

@@ -13,18 +13,19 @@ use Rattle.model.specs.Spans.{Span}
 use Rattle.model.specs.Log.{records, greatestKind, value}
 use Rattle.model.specs.Segments.{segments}
 use Rattle.model.specs.Blocks.{segmentAt}
-use Rattle.model.specs.Split.{mostRows, countFor, Reduced, reduced, reducedTo, gapBelow}
-use Rattle.model.specs.Reductions.{IsReduction}
+use Rattle.model.specs.Split.{mostRows, countFor, Reduced, errorOf, gapBelow}
+use Rattle.model.specs.Reductions.{IsReduction, reductionError}
 use Rattle.model.specs.Windows.{boundIn}
 use Rattle.model.specs.Slot.{slotLength, byBound, byWindows, slotBytes}
 use Rattle.model.specs.Questions.{withBound, windowRows, ruleQuestion, ruledOrder}
-use Rattle.model.specs.Questions.{Question, Outcome, accepted, ask, outcome, lent, kindKnown, boundKnown, logQuestions, orderQuestions, queryQuestions, enoughRows}
+use Rattle.model.specs.Questions.{Question, Outcome, accepted, ask, outcome, lent, kindKnown, boundKnown, mostValue, logQuestions, orderQuestions, queryQuestions, enoughRows}
 use Rattle.model.specs.Calls.{Counts, logSegments, answerOf, countsOf, queryOutcome, querySlot, readRows}
 use Rattle.model.specs.Calls.{ruledAnswer, ruledMark, ruledOutcome, ruledSlot}
 use Rattle.model.specs.Calls.{cutsWeighed, queryWeighed, boundOf, letterQuestions, letterOutcome, letterSlot, letterWeighed}
+use Rattle.model.specs.LowerHalves.{lowerReducedTo, lowerAnswer}
 use Rattle.model.specs.Guarantee.{Choices, BestRows}
 use Rattle.model.specs.Fitting.{FitsFor}
-use Rattle.model.specs.Demands.{AllPass, Demand1, Demand2, Demand3, Cut, Reduces, Storable, Reads, whole, listsFor, BestSlot, NeverShort}
+use Rattle.model.specs.Demands.{AllPass, Demand1, Demand2, Demand3, HalvesUp, CutBy, Cut, LowerCut, Reduces, Storable, Reads, whole, listsFor, BestSlot, NeverShort}
 use Rattle.model.specs.Demands.{SpanAggregation, SpanSlot, QueryPromise, RuledPromise, LetterPromise}
 use Rattle.model.specs.declared.Bound.{Bound}
 use Rattle.model.specs.declared.Bound.the-variants.{Rows, Share}
@@ -33,16 +34,18 @@ use Rattle.model.specs.declared.RuledQuery.{RuledQuery}
 use Rattle.theory.proofs.Refusals.{all-head, all-tail, all-lent, lent-same, outcome-accepted, accepted-query, too-few}
 use Rattle.theory.proofs.Refusals as refusals
 use Rattle.theory.proofs.Tests.{cases, is-some}
-use Rattle.theory.proofs.RowValues.{row-between, row-above}
+use Rattle.theory.proofs.RowValues.{row-le, row-between, row-above, row-least}
 use Rattle.theory.proofs.SlotLaws.{round-trip, layout}
 use Rattle.theory.proofs.Frames.{segmentation}
 use Rattle.theory.proofs.Count.{segment-count}
 use Rattle.theory.proofs.Conserved.{conserved}
 use Rattle.theory.proofs.Merging.{merging}
 use Rattle.theory.proofs.Bounds.{sound-records, mean, logs-measured, reduction-error-le, most-error}
-use Rattle.theory.proofs.Stored.{rows-length, rows-known, rows-sorted}
+use Rattle.theory.proofs.Blocks.{rows-length}
+use Rattle.theory.proofs.Stored.{InRange, rows-known, rows-sorted}
+use Rattle.theory.proofs.Halves.{at-half-of, same-elsewhere, same-error, lower-in-range, same-errors, same-reduction, answers-are, answers, same-outcome}
 use Rattle.theory.proofs.Guarantee.{limitOf}
-use Rattle.theory.proofs.Answer.{answer-reduces, best-rows, count-le, too-few-rows, only-least, never-short}
+use Rattle.theory.proofs.Answer.{cutsTo, answer-reduces, best-rows, count-le, too-few-rows, only-least, never-short}
 use Rattle.theory.proofs.Empty.{nothing-fits, empty-log}
 use Rattle.theory.proofs.Windows.{aggregation, only, window-rows-known, window-rows-sorted, frame-by-frame}
 use Rattle.theory.proofs.Ruled.{bound-outcome, bound-slot, accepted-windows, too-many, not-too-few}
@@ -53,35 +56,35 @@ demand1 = refusals.demand1
 
 -- ---- what an accepted query answers
 
-pub reduced-to : (kind : ℕ) (bound : Bound) (segs : List (Span ℕ)) (k : ℕ) → countFor kind bound segs ≡ some k
-    → reduced kind bound segs ≡ some (reducedTo kind bound segs k)
-unfolding reduced
-reduced-to kind bound segs k h = rw (h, reduced)
-
-answer-is : (q : Query) (log : List ℕ) (k : ℕ) → countFor (q .kind) (q .bound) (logSegments (q .kind) log) ≡ some k
-    → answerOf q log ≡ reducedTo (q .kind) (q .bound) (logSegments (q .kind) log) k
-unfolding answerOf
-answer-is q log k h = rw (reduced-to (q .kind) (q .bound) (logSegments (q .kind) log) k h)
-
 -- the answer to a query that has enough rows: its number of rows and its cuts
 record Answered (q : Query) (log : List ℕ) : Type 0 where
   rows : ℕ
   counted : countFor (q .kind) (q .bound) (logSegments (q .kind) log) ≡ some rows
   cuts : List ℕ
   cut : Cut (q .kind) (logSegments (q .kind) log) (answerOf q log) cuts
+  lowerCut : LowerCut (q .kind) (logSegments (q .kind) log) (lowerAnswer q log) cuts
   reduces : Reduces (q .kind) (q .bound) (logSegments (q .kind) log) cuts
   count : length cuts ≡ rows
 
 answered : (q : Query) (log : List ℕ) → enoughRows q log ≡ true → Answered q log
-unfolding enoughRows logSegments
+unfolding enoughRows logSegments countsOf
 answered q log enough =
     let (k, h) = is-some (countFor (q .kind) (q .bound) (segments (q .kind) (records log))) enough in
-    let (cuts, cut, reduces, size) = answer-reduces (q .kind) (segments (q .kind) (records log)) (q .bound) k h in
+    let segs : List (Span ℕ) = logSegments (q .kind) log in
+    let cuts : List ℕ = cutsTo (q .kind) segs k in
+    let (cut, reduces, size) = answer-reduces (q .kind) segs (q .bound) k h in
+    let (rows, counts) = same-reduction (q .kind) (q .bound) segs k in
+    let lower : LowerCut (q .kind) segs (lowerReducedTo (q .kind) (q .bound) segs k) cuts =
+    record {
+      rows = rows;
+      error = ap (λ (c : Counts). c .error) (sym counts) ∙ cut .error ∙ ap (λ err. reductionError err (length segs) cuts) (same-errors (q .kind) segs);
+    } in
     record {
       rows = k;
       counted = h;
       cuts = cuts;
-      cut = subst (λ a. Cut (q .kind) (logSegments (q .kind) log) a cuts) (sym (answer-is q log k h)) cut;
+      cut = subst (λ a. Cut (q .kind) segs a cuts) (sym (answers-are q log k h .0)) cut;
+      lowerCut = subst (λ a. LowerCut (q .kind) segs a cuts) (sym (answers-are q log k h .1)) lower;
       reduces = reduces;
       count = size;
     }
@@ -116,28 +119,29 @@ slot-never-short q log slot b = rw (b .reads .body) (best-never-short q log (b .
 
 -- ---- what a slot can hold
 
--- the rows and error of a reduction of a log's segments, by whichever kind's rule for row values
-cut-storable : (rule kind : ℕ) (log cuts : List ℕ) (a : Reduced) → kindKnown kind ≡ true → AllPass (logQuestions log)
-    → Cut rule (logSegments kind log) a cuts
+-- the rows and error of a reduction of a log's segments, by any rule for row values that is in range and has the errors of a kind's
+cut-storable : (rule kind : ℕ) (log cuts : List ℕ) (a : Reduced) {valueOf : List (Span ℕ) → ℕ} {err : ℕ → ℕ → ℕ} → InRange valueOf
+    → err ≡ errorOf rule (logSegments kind log) → kindKnown kind ≡ true → AllPass (logQuestions log)
+    → CutBy valueOf err (logSegments kind log) a cuts
     → IsReduction (gapBelow (logSegments kind log)) (length (logSegments kind log)) cuts → length cuts ≤ mostRows
     → Storable byBound kind (a .error) (a .rows)
 unfolding logSegments
-cut-storable rule kind log cuts a known logged cut is few-cuts =
+cut-storable rule kind log cuts a {valueOf} in-range errs known logged cut is few-cuts =
     let segs : List (Span ℕ) = logSegments kind log in
     let (few, small) = sound-records log logged in
     let loads : (r : Span ℕ) → List·Memᴰ r (records log) → r .value ≤ 1000 = λ r m. small r m .2 in
-    let size = rows-length rule (segmentAt segs) (length segs) cuts in
+    let size = rows-length valueOf (segmentAt segs) (length segs) cuts in
     record {
       made = inl refl;
       known = known;
       error64 =
-          rw (cut .error)
+          rw (cut .error, errs)
           (let le = reduction-error-le rule segs (logs-measured kind log logged) (gapBelow segs) (length segs) cuts (le-refl _) is in
           let most = most-error .0 in
           omega arith);
       count = rw (cut .rows) (omega arith);
-      rowsKnown = rw (cut .rows) (rows-known rule kind (records log) few loads cuts is);
-      sorted = rw (cut .rows) (rows-sorted rule kind (records log) few loads cuts is);
+      rowsKnown = rw (cut .rows) (rows-known valueOf in-range kind (records log) few loads cuts is);
+      sorted = rw (cut .rows) (rows-sorted valueOf in-range kind (records log) few loads cuts is);
     }
 
 -- ---- what the slot of an accepted query holds
@@ -162,7 +166,7 @@ module _ (q : Query) (log slot : List ℕ) (counts : Counts) (ok : queryOutcome 
       let limit = limit-le (q .bound) (all-head _ _ (all-tail _ _ order)) in
       let at-most = count-le (q .kind) (records log) (q .bound) (a .rows) (a .counted) in
       let counted = a .count in
-      cut-storable (q .kind) (q .kind) log (a .cuts) (answerOf q log) (all-head _ _ order) logged (a .cut)
+      cut-storable (q .kind) (q .kind) log (a .cuts) (answerOf q log) (row-le (q .kind) mostValue) refl (all-head _ _ order) logged (a .cut)
       (is-reduction (q .kind) (q .bound) segs (a .cuts) (a .reduces)) (omega arith)
 
   pub reads-back : Reads (querySlot q log slot) byBound (q .kind) ((answerOf q log) .error) ((answerOf q log) .rows)
@@ -225,6 +229,7 @@ demand2 =
       mean = mean;
       conserved = conserved;
       merging = λ kind log. merging (segmentAt (logSegments kind log)) (length (logSegments kind log));
+      least = row-least;
       between = row-between;
       greatest = λ b s m. row-above greatestKind b s m refl;
       reduction = λ q log room counts ok.
@@ -235,11 +240,26 @@ demand2 =
       written = reads-back;
       roundTrip = round-trip;
       stillRead = λ rule kind log cuts rest r known logged cut is few.
-          round-trip byBound kind (r .error) (r .rows) rest (cut-storable rule kind log cuts r known logged cut is few);
+          round-trip byBound kind (r .error) (r .rows) rest (cut-storable rule kind log cuts r (lower-in-range rule) (sym (same-errors rule (logSegments kind log))) known logged cut is few);
       layout = layout;
       windows = λ q log windowed passed rows.
           (only q log windowed passed rows, λ e. subst (SpanAggregation q log) (sym e) (aggregation q log windowed passed));
       frameByFrame = frame-by-frame;
+    }
+
+-- Halves go up
+pub halves-up : HalvesUp
+halves-up =
+    record {
+      atHalf = λ kind k b other half. at-half-of kind b k other half;
+      elsewhere = same-elsewhere;
+      sameError = same-error;
+      sameOutcome = same-outcome;
+      sameCuts = λ q log room counts ok.
+          let (fits, order, enough, same) = accepted-query q log room counts ok in
+          let found = answered q log enough in
+          (found .cuts, found .cut, found .lowerCut);
+      risen = λ q log. answers q log .1;
     }
 
 -- Demand 3

@@ -25,12 +25,14 @@ pub mod Windows
 pub mod Ruled
 pub mod Guarantee
 pub mod Answer
+pub mod Halves
 pub mod Empty
 pub mod Demands
 pub mod Conserved
 pub mod Pages
 pub mod Refutations
 pub mod RefutedGreatest
+pub mod RefutedHalves
 pub mod RefutedReductions
 pub mod RefutedCalls
 pub mod RefutedWindows

@@ -1,15 +1,15 @@
--- The nearest whole number to a block's mean, the lower one at a half: it lies between the block's least and greatest value, and
--- no whole number, negative ones included, has a smaller squared error. Assumes nothing.
+-- The nearest whole number to a block's mean, the upper one at a half: it lies between the block's least and greatest value. No whole
+-- number, negative ones included, has a smaller squared error than one that is at most a half away from the mean. Assumes nothing.
 use Prim.Native.Nat.{ℕ, zero, suc, _+_, _-_, _*_, _%_, _≤_, _<_, zero-le}
 use mathlib.Core.List.{List, [], _∷_, List·Memᴰ, List·Memᴰ·head, List·Memᴰ·tail}
 use mathlib.Core.Logic.{_⊎_, inl, inr}
 use mathlib.Core.Path.{_≡_, refl, ap}
 use native.Mathlib.Decide.{decLe}
-use native.Mathlib.Nat.{mul-le-mul-left, mul-le-mul-right, div-add-mod', mod-lt, lt-of-not-le}
+use native.Mathlib.Nat.{le-of-lt, le-of-suc-le-suc, mul-le-mul-left, lt-of-mul-lt-mul-right, div-add-mod', mod-lt}
 use native.Mathlib.Omega.{arith}
-use lib.Dec.{ltb}
+use lib.Dec.{leb, ltb}
 use lib.IntN.{ℤ, pos, negsuc}
-use borrow.Author.Tests.{ltb-true, ltb-false}
+use borrow.Author.Tests.{leb-true, leb-false, ltb-true, ltb-false}
 use Rattle.model.specs.Common.{sumOf}
 use Rattle.model.specs.Spans.{Span, spanLength}
 use Rattle.model.specs.Blocks.{empty, totalsOf, add, totals, nearest, squared, errorWith}
@@ -54,7 +54,7 @@ error-neg r (s ∷ b) =
     omega arith
 
 -- a block of no frames has totals of 0
-no-frames : (b : List (Span ℕ)) → (totals b) .frames ≡ 0 → ((totals b) .sum ≡ 0) × ((totals b) .squares ≡ 0)
+pub no-frames : (b : List (Span ℕ)) → (totals b) .frames ≡ 0 → ((totals b) .sum ≡ 0) × ((totals b) .squares ≡ 0)
 unfolding totals empty add totalsOf
 no-frames [] h = (refl, refl)
 no-frames (s ∷ b) h =
@@ -67,102 +67,93 @@ no-frames (s ∷ b) h =
 
 -- ---- the nearest whole number
 
--- at most a half above the mean, and less than a half below it
-pub nearest-low : (sum frames : ℕ) → 0 < frames → 2 * sum ≤ (2 * nearest sum frames + 1) * frames
+-- a number at most a half away from sum / frames, above or below it
+pub record Near (sum frames n : ℕ) : Type 0 where
+  pub low : 2 * sum ≤ (2 * n + 1) * frames
+  pub high : 2 * (n * frames) ≤ 2 * sum + frames
+
+-- the upper one at a half: less than a half below the mean
+pub nearest-low : (sum frames : ℕ) → 0 < frames → 2 * sum < (2 * nearest sum frames + 1) * frames
 unfolding nearest
-nearest-low sum frames pos-frames =
-    let parts = div-add-mod' sum frames in
+nearest-low sum zero pos-frames = absurd (omega arith)
+nearest-low sum (suc n) pos-frames =
+    let parts = div-add-mod' sum (suc n) in
     let left = mod-lt sum pos-frames in
-    cases (ltb frames (2 * (sum % frames)))
+    cases (leb (suc n) (2 * (sum % suc n)))
     (λ e. rw e (omega arith))
-    (λ e. rw e (let small = ltb-false frames (2 * (sum % frames)) e in omega arith))
+    (λ e. rw e (let small = leb-false (suc n) (2 * (sum % suc n)) e in omega arith))
 
-pub nearest-high : (sum frames : ℕ) → 0 < frames → 2 * (nearest sum frames * frames) < 2 * sum + frames
+pub nearest-high : (sum frames : ℕ) → 0 < frames → 2 * (nearest sum frames * frames) ≤ 2 * sum + frames
 unfolding nearest
-nearest-high sum frames pos-frames =
-    let parts = div-add-mod' sum frames in
-    cases (ltb frames (2 * (sum % frames)))
-    (λ e. rw e (let large = ltb-true frames (2 * (sum % frames)) e in omega arith))
+nearest-high sum zero pos-frames = absurd (omega arith)
+nearest-high sum (suc n) pos-frames =
+    let parts = div-add-mod' sum (suc n) in
+    cases (leb (suc n) (2 * (sum % suc n)))
+    (λ e. rw e (let large = leb-true (suc n) (2 * (sum % suc n)) e in omega arith))
     (λ e. rw e (omega arith))
 
--- so no other number r has a smaller r² × frames − 2 × r × sum
-nearest-least : (sum frames r : ℕ) → 0 < frames
-    → nearest sum frames * nearest sum frames * frames + 2 * (r * sum)
-    ≤ r * r * frames + 2 * (nearest sum frames * sum)
-nearest-least sum frames r pos-frames =
-    by (nearest sum frames) (nearest-low sum frames pos-frames) (nearest-high sum frames pos-frames)
-  where
-    by : (n : ℕ) → 2 * sum ≤ (2 * n + 1) * frames → 2 * (n * frames) < 2 * sum + frames
-        → n * n * frames + 2 * (r * sum) ≤ r * r * frames + 2 * (n * sum)
-    by n low high =
-        elim (decLe n r) [
-          | yes h ↦ above (r - n) (omega arith)
-          | no h ↦ under (n - suc r) (omega arith)
-        ]
-      where
-        -- r is d above n
-        above : (d : ℕ) → r ≡ n + d → n * n * frames + 2 * (r * sum) ≤ r * r * frames + 2 * (n * sum)
-        above zero e = rw e (omega arith)
-        above (suc d) e = rw e (let h = mul-le-mul-left (suc d) low in omega arith)
+pub nearest-near : (sum frames : ℕ) → 0 < frames → Near sum frames (nearest sum frames)
+nearest-near sum frames pos-frames =
+    record { low = le-of-lt (nearest-low sum frames pos-frames); high = nearest-high sum frames pos-frames }
 
-        -- n is 1 + d above r
-        under : (d : ℕ) → n ≡ suc (r + d) → n * n * frames + 2 * (r * sum) ≤ r * r * frames + 2 * (n * sum)
-        under d e =
-            let h = mul-le-mul-left (suc d) (rw e at high) in
-            rw e (omega arith)
-
--- the whole number nearest to a block's mean
-abbrev pub nearestMean : List (Span ℕ) → ℕ
-nearestMean b = nearest ((totals b) .sum) ((totals b) .frames)
-
--- its error is least among all numbers, negative ones included
-mean-least-pos : (b : List (Span ℕ)) (r : ℕ) → errorWith (pos (nearestMean b)) b ≤ errorWith (pos r) b
-mean-least-pos b r =
-    elim (decLe 1 ((totals b) .frames)) [
-      | yes h ↦
-          (let here = error-pos (nearestMean b) b in
-          let there = error-pos r b in
-          let less = nearest-least ((totals b) .sum) ((totals b) .frames) r h in
-          omega arith)
-      | no h ↦
-          (let here = void (omega arith) (nearestMean b) in
-          omega arith)
+-- no other number r has a smaller r² × frames − 2 × r × sum than a near one
+near-least : (sum frames n r : ℕ) → Near sum frames n → n * n * frames + 2 * (r * sum) ≤ r * r * frames + 2 * (n * sum)
+near-least sum frames n r near =
+    elim (decLe n r) [
+      | yes h ↦ above (r - n) (omega arith)
+      | no h ↦ under (n - suc r) (omega arith)
     ]
   where
-    void : (totals b) .frames ≡ 0 → (n : ℕ) → errorWith (pos n) b ≡ 0
-    void none n =
-        let zeros = no-frames b none in
-        let here = rw (zeros .0, zeros .1, none) at (error-pos n b) in
-        omega arith
+    -- r is d above n
+    above : (d : ℕ) → r ≡ n + d → n * n * frames + 2 * (r * sum) ≤ r * r * frames + 2 * (n * sum)
+    above zero e = rw e (omega arith)
+    above (suc d) e = rw e (let h = mul-le-mul-left (suc d) (near .low) in omega arith)
 
-pub mean-least : (b : List (Span ℕ)) (z : ℤ) → errorWith (pos (nearestMean b)) b ≤ errorWith z b
-mean-least b (pos r) = mean-least-pos b r
-mean-least b (negsuc r) =
-    let zero-row = mean-least-pos b 0 in
-    let squares-row = error-pos 0 b in
-    let neg = error-neg r b in
-    omega arith
+    -- n is 1 + d above r
+    under : (d : ℕ) → n ≡ suc (r + d) → n * n * frames + 2 * (r * sum) ≤ r * r * frames + 2 * (n * sum)
+    under d e =
+        let h = mul-le-mul-left (suc d) (rw e at (near .high)) in
+        rw e (omega arith)
+
+-- so the error of a number near a block's mean is least among all whole numbers, negative ones included
+module _ (b : List (Span ℕ)) (n : ℕ) (near : 0 < (totals b) .frames → Near ((totals b) .sum) ((totals b) .frames) n) where
+  mean-least-pos : (r : ℕ) → errorWith (pos n) b ≤ errorWith (pos r) b
+  mean-least-pos r =
+      elim (decLe 1 ((totals b) .frames)) [
+        | yes h ↦
+            (let here = error-pos n b in
+            let there = error-pos r b in
+            let less = near-least ((totals b) .sum) ((totals b) .frames) n r (near h) in
+            omega arith)
+        | no h ↦
+            (let here = void (omega arith) in
+            omega arith)
+      ]
+    where
+      void : (totals b) .frames ≡ 0 → errorWith (pos n) b ≡ 0
+      void none =
+          let zeros = no-frames b none in
+          let here = rw (zeros .0, zeros .1, none) at (error-pos n b) in
+          omega arith
+
+  pub mean-least : (z : ℤ) → errorWith (pos n) b ≤ errorWith z b
+  mean-least (pos r) = mean-least-pos r
+  mean-least (negsuc r) =
+      let zero-row = mean-least-pos 0 in
+      let squares-row = error-pos 0 b in
+      let neg = error-neg r b in
+      omega arith
 
 -- the nearest whole number to a mean is no more than what the mean is at most, and no less than what it is at least
 pub nearest-le : (hi sum frames : ℕ) → sum ≤ hi * frames → nearest sum frames ≤ hi
 unfolding nearest
-nearest-le hi sum zero le =
-    let nothing : sum ≡ 0 = omega arith in
-    rw nothing zero-le
+nearest-le hi sum zero le = zero-le
 nearest-le hi sum (suc frames) le =
-    by (nearest sum (suc frames)) (nearest-high sum (suc frames) (omega arith)) (decLe (nearest sum (suc frames)) hi)
-  where
-    by : (n : ℕ) → 2 * (n * suc frames) < 2 * sum + suc frames → Dec (n ≤ hi) → n ≤ hi
-    by n high (yes q) = q
-    by n high (no q) = let far = mul-le-mul-right (suc frames) (lt-of-not-le q) in absurd (omega arith)
+    le-of-suc-le-suc (lt-of-mul-lt-mul-right (suc frames) (omega (arith, nearest-high sum (suc frames) (omega arith))))
 
 pub le-nearest : (lo sum frames : ℕ) → 0 < frames → lo * frames ≤ sum → lo ≤ nearest sum frames
 le-nearest lo sum frames pos-frames le =
-    by (nearest sum frames) (nearest-low sum frames pos-frames) (decLe lo (nearest sum frames))
-  where
-    by : (n : ℕ) → 2 * sum ≤ (2 * n + 1) * frames → Dec (lo ≤ n) → lo ≤ n
-    by n low (yes q) = q
-    by n low (no q) = let far = mul-le-mul-right frames (lt-of-not-le q) in absurd (omega arith)
+    le-of-suc-le-suc (lt-of-mul-lt-mul-right frames (omega (arith, nearest-low sum frames pos-frames)))
 
 -- the sum of a block's values lies between its bounds
 module _ (lo hi : ℕ) where

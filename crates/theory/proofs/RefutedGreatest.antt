@@ -2,29 +2,27 @@
 -- 200, 210, 50 and 7; three rows have the least error 24,600 and four have 400. With nearest means in their place three rows would
 -- have 14,943. Assumes nothing.
 use Prim.Native.Nat.{ℕ, _≤_}
-use mathlib.Core.List.{List, [], _∷_, _++_, map, List·Memᴰ·head, List·Memᴰ·tail, List·Memᴰ·eq-of-singleton}
+use mathlib.Core.List.{List, [], _∷_, map, List·Memᴰ·head, List·Memᴰ·tail, List·Memᴰ·eq-of-singleton}
 use mathlib.Core.Option.{Option, some}
-use mathlib.Core.Path.{_≡_, refl, sym, _∙_, subst}
+use mathlib.Core.Path.{_≡_, refl}
 use native.Mathlib.Omega.{arith}
 use lib.IntN.{ℤ, pos, negsuc}
-use lib.ListN.{length, replicate}
-use Rattle.model.specs.Common.{sumOf, listFrom, numberAt, bytesOf}
-use Rattle.model.specs.Spans.{Span, groupCount, frameCount, spanLength, meets, holds, adjacent}
-use Rattle.model.specs.Log.{recordLength, recordBytes, recordAt, recordCount, records, meeting, aggregate, greatestKind, aggregated, value}
-use Rattle.model.specs.Blocks.{segmentAt, gap, lastGap, block, empty, totalsOf, add, totals, nearest, valueFor, rowValue, squared, errorWith, blockError, rowOf}
-use Rattle.model.specs.Split.{Reduced, rowsOf, errorOf, gapBelow, mostRows}
-use Rattle.model.specs.Reductions.{IsReduction, reductionError}
+use lib.ListN.{replicate}
+use Rattle.model.specs.Common.{listFrom, numberAt, bytesOf}
+use Rattle.model.specs.Spans.{Span, groupCount, frameCount, spanLength, meets, holds}
+use Rattle.model.specs.Log.{records, meeting, aggregate, greatestKind, aggregated, value}
+use Rattle.model.specs.Blocks.{block, empty, totalsOf, add, totals, rowValue}
+use Rattle.model.specs.Split.{mostRows}
 use Rattle.model.specs.Slot.{slotLength, byBound, rowBytes, rowsBytes, usedBytes, slotBytes, rowPlace, slotMark, slotKind, slotCount, slotError, slotRow, slotRows, valueIn}
-use Rattle.model.specs.Questions.{refused, accepted, ask, askRoom, outcome, lent, each, marked, kindKnown, groupKnown, spanQuestions, recordQuestions, mostRecords, logQuestions}
+use Rattle.model.specs.Questions.{accepted, ask, askRoom, lent, each, marked, kindKnown, groupKnown}
 use Rattle.model.specs.Questions.{follows, inOrder, rowKnown, rowQuestions, zeros, tailZero, errorKnown, headerMarked, slotQuestions}
-use Rattle.model.specs.Calls.{Counts, logSegments, readOutcome, readRows}
+use Rattle.model.specs.Calls.{Counts, readRows}
 use Rattle.model.specs.Guarantee.{Choices, LeastOfFewest, BestOfLimit, BestOfShare}
 use Rattle.model.specs.Fitting.{FitsFor}
-use Rattle.model.specs.Demands.{AllPass, Cut, NeverShort, QueryPromise, whole}
+use Rattle.model.specs.Demands.{NeverShort, QueryPromise, whole}
 use Rattle.model.specs.declared.Bound.the-variants.{Rows}
 use Rattle.model.proofs.Cases.{span, log-G, segments-G3, four-G3, runs-G3, bytes, query, worked-cases}
 use Rattle.theory.proofs.Tests.{some-inj}
-use Rattle.theory.proofs.Refusals.{outcome-accepted, accepted≢refused}
 use Rattle.theory.proofs.Guarantee.{one-least}
 use Rattle.theory.proofs.Demands.{demand2}
 use Rattle.theory.proofs.Refutations.{decoded, lists-of, best-G, least-of-three}
@@ -145,33 +143,9 @@ pub row-below-least : (kind : ℕ) → rowValue kind (span 0 0 0 5 ∷ []) ≡ 4
 row-below-least kind e = omega (arith, only-value kind .0)
 
 -- loads 0 and 1
-abbrev loads : List (Span ℕ)
+abbrev pub loads : List (Span ℕ)
 loads = span 0 0 0 0 ∷ span 0 1 1 1 ∷ []
 
 -- a row value of kind 3 below a value of its block (greatest)
 pub row-below-block : rowValue greatestKind loads ≡ 0 → ⊥
 row-below-block e = omega (arith, demand2 .greatest loads (span 0 1 1 1) (List·Memᴰ·tail (List·Memᴰ·head refl)))
-
--- the slot of kind 3 that was written for these loads in one row: value 0, error 1
-abbrev earlier : Reduced
-earlier = record { rows = span 0 0 1 0 ∷ []; error = 1; weighed = 0 }
-
-earlier-cut : Cut 0 loads earlier (0 ∷ []) × IsReduction (gapBelow loads) 2 (0 ∷ [])
-unfolding rowsOf rowOf errorOf reductionError blockError errorWith rowValue valueFor nearest totals totalsOf add empty spanLength squared sumOf block listFrom segmentAt gapBelow lastGap gap adjacent
-earlier-cut = (record { rows = refl; error = refl }, (omega arith, omega arith, refl))
-
-earlier-logged : AllPass (logQuestions (bytes loads))
-unfolding logQuestions recordCount recordLength mostRecords each recordQuestions spanQuestions marked groupKnown recordAt numberAt recordBytes bytesOf ask outcome
-earlier-logged = outcome-accepted (logQuestions (bytes loads)) (tt {0}) (tt {0}) refl .0
-
--- refused, whatever stands behind it (stillRead)
-pub earlier-slot-refused : (rest : List ℕ) (number index : ℕ)
-    → readOutcome (slotBytes byBound greatestKind 1 (span 0 0 1 0 ∷ []) ++ rest) ≡ refused number index → ⊥
-unfolding kindKnown mostRows
-earlier-slot-refused rest number index e =
-    let found : logSegments greatestKind (bytes loads) ≡ loads = worked-cases .2 .1 .1 .1 .1 .0 .0 in
-    let (cut, is) = earlier-cut in
-    let reads = demand2 .stillRead 0 greatestKind (bytes loads) (0 ∷ []) rest earlier refl earlier-logged
-    (subst (λ segs. Cut 0 segs earlier (0 ∷ [])) (sym found) cut)
-    (subst (λ segs. IsReduction (gapBelow segs) (length segs) (0 ∷ [])) (sym found) is) (omega arith) in
-    accepted≢refused (sym (reads .header) ∙ e)

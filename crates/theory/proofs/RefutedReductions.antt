@@ -24,7 +24,7 @@ use Rattle.model.specs.declared.Bound.the-variants.{Rows, Share}
 use Rattle.model.proofs.Cases.{span, log-G, segments-G, rows-G, bytes, query, worked-cases}
 use Rattle.theory.proofs.Tests.{and-true}
 use Rattle.theory.proofs.Refusals.{accepted≢refused, all-tail}
-use Rattle.theory.proofs.Stored.{rows-length}
+use Rattle.theory.proofs.Blocks.{rows-length}
 use Rattle.theory.proofs.Answer.{widens}
 use Rattle.theory.proofs.Choice.{least-of}
 use Rattle.theory.proofs.Demands.{demand2}

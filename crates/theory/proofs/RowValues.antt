@@ -17,7 +17,7 @@ use Rattle.model.specs.Blocks.{Totals, empty, totalsOf, add, totals, nearest, v
 use Rattle.model.specs.Fitting.{AtMost}
 use Rattle.theory.proofs.Tests.{cases}
 use Rattle.theory.proofs.Cost.{Cost, costOf}
-use Rattle.theory.proofs.Nearest.{squared-pos, mean-least, nearest-le, le-nearest, sum-between}
+use Rattle.theory.proofs.Nearest.{squared-pos, nearest-near, mean-least, nearest-le, le-nearest, sum-between}
 
 -- ---- the greatest value of a block
 
@@ -119,7 +119,7 @@ unfolding blockError rowValue valueFor
 row-least kind b z h =
     cases (eqb kind greatestKind)
     (λ e. rw e (greatest-least b z (λ s m. h s m (eqb-true kind greatestKind e))))
-    (λ e. rw e (mean-least b z))
+    (λ e. rw e (mean-least b _ (nearest-near _ _) z))
 
 -- ---- the cost of the tool's rows, by kind: squared differences; for kind 3 only what is not below a value is allowed
 

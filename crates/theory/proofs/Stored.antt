@@ -1,6 +1,5 @@
--- The rows of a reduction can be stored in a slot, whichever kind's rule their values were made by: each has a known group, a first
--- frame not behind its last, a last frame of 16 bits and a value of at most 128,000; each follows the one before it; and there
--- are as many as blocks. Assumes nothing.
+-- The rows of a reduction can be stored in a slot, whichever rule in range gave their values: each has a known group, a first frame
+-- not behind its last, a last frame of 16 bits and a value of at most 128,000; and each follows the one before it. Assumes nothing.
 use Prim.Native.Nat.{ℕ, zero, suc, _+_, _-_, _^_, _≤_, _<_}
 use mathlib.Core.Bool.{true, or-true}
 use mathlib.Core.List.{List, [], _∷_, _++_, append-nil, append-assoc, List·Memᴰ}
@@ -9,27 +8,20 @@ use mathlib.Core.Path.{_≡_, refl, sym}
 use native.Mathlib.Nat.{le-refl, add-zero, add-suc}
 use native.Mathlib.Omega.{arith}
 use lib.Dec.{ltb, eqb}
-use lib.ListN.{length, length-append}
+use lib.ListN.{length}
 use borrow.Author.Tests.{eqb-true, lt-ltb, le-leb, eq-eqb}
 use Rattle.model.specs.Spans.{Span, groupCount, frameCount, adjacent, nowhere}
 use Rattle.model.specs.Log.{value}
 use Rattle.model.specs.Segments.{segments}
-use Rattle.model.specs.Blocks.{segmentAt, lastGap, block, rowValue, rowOf}
+use Rattle.model.specs.Blocks.{segmentAt, lastGap, block, rowOf}
 use Rattle.model.specs.Split.{gapBelow, rowsOf}
 use Rattle.model.specs.Reductions.{IsReduction}
 use Rattle.model.specs.Questions.{groupKnown, rowKnown, follows, mostRecords, mostValue}
 use Rattle.theory.proofs.Tests.{true-and, adjacent-true}
 use Rattle.theory.proofs.Frames.{Heads, Chain, heads-map, chain-member, chain-neighbours, Earlier}
 use Rattle.theory.proofs.Frames.{ordered, value-inside, segmentation}
-use Rattle.theory.proofs.RowValues.{row-le}
 use Rattle.theory.proofs.Converse.{member-listFrom, block-adjacent}
 use Rattle.theory.proofs.Bounds.{segment-value-le, segment-member}
-
--- a row for each block
-pub rows-length : (rule : ℕ) (seg : ℕ → Span ℕ) (i : ℕ) (cuts : List ℕ) → length (rowsOf rule seg i cuts) ≡ length cuts
-unfolding rowsOf
-rows-length rule seg i [] = refl
-rows-length rule seg i (j ∷ js) = let ih = rows-length rule seg j js in simp length-append (omega arith)
 
 -- spans that are adjacent, one after the other, are of one group, and the last ends no earlier than the first begins
 reach : (seg : ℕ → Span ℕ) (j count : ℕ) → ((k : ℕ) → j ≤ k → k ≤ j + count → (seg k) .first ≤ (seg k) .last)
@@ -48,20 +40,20 @@ reach seg j (suc count) proper near =
 abbrev Behind : (ℕ → Span ℕ) → ℕ → Span ℕ → Type 0
 Behind seg i t = (k : ℕ) → i ≡ suc k → Earlier (seg k) t
 
-module _ (rule : ℕ) (seg : ℕ → Span ℕ) (n : ℕ) (P : Span ℕ → Type 0)
+module _ (valueOf : List (Span ℕ) → ℕ) (seg : ℕ → Span ℕ) (n : ℕ) (P : Span ℕ → Type 0)
     (apart : (k : ℕ) → suc k < n → Earlier (seg k) (seg (suc k)))
     (proper : (j i : ℕ) → j < i → i ≤ n → lastGap seg i ≤ j
-    → P (rowOf rule seg j i) × ((seg j) .group ≡ (seg (i - 1)) .group)) where
+    → P (rowOf valueOf seg j i) × ((seg j) .group ≡ (seg (i - 1)) .group)) where
   -- the rows of a reduction, before a chain that begins behind its last segment
   rows-chain : (cuts : List ℕ) (i : ℕ) (rest : List (Span ℕ)) → i ≤ n → IsReduction (lastGap seg) i cuts
-      → Chain P Earlier rest → Heads (Behind seg i) rest → Chain P Earlier (rowsOf rule seg i cuts ++ rest)
+      → Chain P Earlier rest → Heads (Behind seg i) rest → Chain P Earlier (rowsOf valueOf seg i cuts ++ rest)
   unfolding rowsOf rowOf
   rows-chain [] i rest le red c h = c
   rows-chain (j ∷ js) i rest le red c h =
       let below = red .0 in
       let here = proper j i below le (red .1) in
       rw append-assoc
-      (rows-chain js j (rowOf rule seg j i ∷ rest) (omega arith) (red .2) (
+      (rows-chain js j (rowOf valueOf seg j i ∷ rest) (omega arith) (red .2) (
         here .0,
         heads-map rest (λ t behind. rw (here .1) (behind (i - 1) (omega arith))) h,
         c,
@@ -93,8 +85,8 @@ module _ (kind : ℕ) (rs : List (Span ℕ)) where
   abbrev pub nth : ℕ → Span ℕ
   nth i = segmentAt (segments kind rs) i
 
-  abbrev pub rowsAt : ℕ → List ℕ → List (Span ℕ)
-  rowsAt rule cuts = rowsOf rule (segmentAt (segments kind rs)) (length (segments kind rs)) cuts
+  abbrev pub rowsAt : (List (Span ℕ) → ℕ) → List ℕ → List (Span ℕ)
+  rowsAt valueOf cuts = rowsOf valueOf (segmentAt (segments kind rs)) (length (segments kind rs)) cuts
 
   -- a segment has a frame, and lies among the groups and frames
   nth-inside : (k : ℕ) → k < length (segments kind rs)
@@ -104,20 +96,24 @@ module _ (kind : ℕ) (rs : List (Span ℕ)) where
       ordered eqb eqb-true (value kind rs) groupCount frameCount (value-inside kind rs) (nth k)
       (segment-member (segments kind rs) k lt)
 
-module _ (rule kind : ℕ) (rs : List (Span ℕ)) (few : length rs ≤ mostRecords)
+-- a rule for row values that gives none above the values of the block, as far as these are at most 128,000
+abbrev pub InRange : (List (Span ℕ) → ℕ) → Type 0
+InRange valueOf = (b : List (Span ℕ)) → ((s : Span ℕ) → List·Memᴰ s b → s .value ≤ mostValue) → valueOf b ≤ mostValue
+
+module _ (valueOf : List (Span ℕ) → ℕ) (in-range : InRange valueOf) (kind : ℕ) (rs : List (Span ℕ)) (few : length rs ≤ mostRecords)
     (small : (r : Span ℕ) → List·Memᴰ r rs → r .value ≤ 1000) where
   -- a block's row value is at most 128,000, as its segments' are
-  row-value-le : (j i : ℕ) → j < i → i ≤ length (segments kind rs) → rowValue rule (block (nth kind rs) j i) ≤ mostValue
+  row-value-le : (j i : ℕ) → j < i → i ≤ length (segments kind rs) → valueOf (block (nth kind rs) j i) ≤ mostValue
   unfolding block
   row-value-le j i below le =
-      row-le rule mostValue (block (nth kind rs) j i)
+      in-range (block (nth kind rs) j i)
       (λ s m.
       let x = member-listFrom (nth kind rs) j (i - j) s m in
       rw (x .3) (segment-value-le kind rs few small _ (segment-member (segments kind rs) (x .0) (omega arith))))
 
   -- a block's row can be held, and its segments are of one group
   row-held : (j i : ℕ) → j < i → i ≤ length (segments kind rs) → gapBelow (segments kind rs) i ≤ j
-      → Held (rowOf rule (nth kind rs) j i) × ((nth kind rs j) .group ≡ (nth kind rs (i - 1)) .group)
+      → Held (rowOf valueOf (nth kind rs) j i) × ((nth kind rs j) .group ≡ (nth kind rs (i - 1)) .group)
   unfolding gapBelow rowOf
   row-held j i below le low =
       let end : j + (i - suc j) ≡ i - 1 = omega arith in
@@ -136,20 +132,20 @@ module _ (rule kind : ℕ) (rs : List (Span ℕ)) (few : length rs ≤ mostRecor
 
   module _ (cuts : List ℕ) (red : IsReduction (gapBelow (segments kind rs)) (length (segments kind rs)) cuts) where
     -- the rows are a chain of rows that can be held
-    rows-held : Chain Held Earlier (rowsAt kind rs rule cuts)
+    rows-held : Chain Held Earlier (rowsAt kind rs valueOf cuts)
     unfolding gapBelow
     rows-held =
         rw append-nil at
-        (rows-chain rule (nth kind rs) (length (segments kind rs)) Held (segmentation kind rs .sorted) row-held cuts
+        (rows-chain valueOf (nth kind rs) (length (segments kind rs)) Held (segmentation kind rs .sorted) row-held cuts
         (length (segments kind rs)) [] (le-refl _) red tt tt)
 
     -- every row passes the tests of a slot's rows
-    pub rows-known : (r : Span ℕ) → List·Memᴰ r (rowsAt kind rs rule cuts) → (rowKnown r ≡ true) × (r .last < 2 ^ 16)
-    rows-known r m = held-known r (chain-member Held Earlier (rowsAt kind rs rule cuts) rows-held r m)
+    pub rows-known : (r : Span ℕ) → List·Memᴰ r (rowsAt kind rs valueOf cuts) → (rowKnown r ≡ true) × (r .last < 2 ^ 16)
+    rows-known r m = held-known r (chain-member Held Earlier (rowsAt kind rs valueOf cuts) rows-held r m)
 
     -- every row follows the one before it
-    pub rows-sorted : (i : ℕ) → suc i < length (rowsAt kind rs rule cuts)
-        → follows (segmentAt (rowsAt kind rs rule cuts) (suc i)) (segmentAt (rowsAt kind rs rule cuts) i) ≡ true
+    pub rows-sorted : (i : ℕ) → suc i < length (rowsAt kind rs valueOf cuts)
+        → follows (segmentAt (rowsAt kind rs valueOf cuts) (suc i)) (segmentAt (rowsAt kind rs valueOf cuts) i) ≡ true
     unfolding segmentAt
     rows-sorted i lt =
-        earlier-follows _ _ (chain-neighbours Held Earlier (rowsAt kind rs rule cuts) rows-held nowhere i lt)
+        earlier-follows _ _ (chain-neighbours Held Earlier (rowsAt kind rs valueOf cuts) rows-held nowhere i lt)

@@ -79,12 +79,12 @@ impl Totals {
         self.greatest = self.greatest.max(other.greatest);
     }
 
-    /// The greatest value, or the whole number nearest to the mean, the lower one at a half.
+    /// The greatest value, or the whole number nearest to the mean, the upper one at a half.
     fn row_value(&self, kind: u8) -> u64 {
         if kind == GREATEST {
             self.greatest
         } else {
-            (2 * self.sum + self.length - 1) / (2 * self.length)
+            (2 * self.sum + self.length) / (2 * self.length)
         }
     }
 

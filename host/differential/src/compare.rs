@@ -4,7 +4,7 @@ use crate::inputs;
 use crate::random::Random;
 use crate::windows;
 use pacer::c;
-use reference::{Contents, No, Stretch};
+use reference::{Contents, Half, No, Reduction, Stretch};
 use std::fmt::Debug;
 
 /// How often each question was the first 'no', and at place 0 how often there was none.
@@ -28,8 +28,9 @@ pub struct Seen {
     pub cut_off: u64,
     pub full: u64,
     pub one_too_many: u64,
-    /// Slots of the greatest load by the rule of before, with other rows than now.
-    pub earlier: u64,
+    /// Rows that have risen at a half, and slots of before with other rows than now, by kind.
+    pub halves: [u64; 5],
+    pub earlier: [u64; 5],
     /// Segments, rows and cuts of the largest case.
     pub most_segments: usize,
     pub most_rows: usize,
@@ -52,11 +53,14 @@ impl Seen {
                 *a += b;
             }
         }
+        for kind in 0..self.halves.len() {
+            self.halves[kind] += other.halves[kind];
+            self.earlier[kind] += other.earlier[kind];
+        }
         self.with_error += other.with_error;
         self.cut_off += other.cut_off;
         self.full += other.full;
         self.one_too_many += other.one_too_many;
-        self.earlier += other.earlier;
         self.most_segments = self.most_segments.max(other.most_segments);
         self.most_rows = self.most_rows.max(other.most_rows);
         self.most_weighed = self.most_weighed.max(other.most_weighed);
@@ -158,8 +162,12 @@ pub fn run(random: &mut Random, seen: &mut Seen) -> Result<(), String> {
     };
     inputs::damage_slot(random, &mut other);
     slot_calls(random, &other, seen)?;
+    if kind <= reference::MOST_KIND && reference::bounded(rule, bound) {
+        halves(random, kind, &expected, rule, bound, seen)?;
+    }
     if kind == reference::GREATEST && reference::bounded(rule, bound) {
-        earlier_slot(random, &expected, rule, bound, seen)?;
+        let earlier = reference::reduce_by(&expected, 0, Half::Lower, rule, bound);
+        earlier_slot(random, kind, &expected, rule, bound, earlier, seen)?;
     }
     write_record(random, seen)?;
     let windows = inputs::windows(random, &records);
@@ -167,29 +175,68 @@ pub fn run(random: &mut Random, seen: &mut Seen) -> Result<(), String> {
     windows::run(random, kind, &windows, &log, length, seen)
 }
 
-/// The calls on a slot of the greatest load as it was written before its rows held their greatest
-/// values: with nearest whole numbers, and their error. It is read, walked and looked up as it is.
-fn earlier_slot(
+/// Holds what a query answers to what it answered before halves went up: the same refusal, or as
+/// many rows of the same frames with the same error and as many cuts weighed. A value is one more
+/// than it was at a half, and else what it was; by the kind of the greatest load it never rises.
+/// A slot of before is read as it is.
+fn halves(
     random: &mut Random,
+    kind: u8,
     segments: &[Stretch],
     rule: u8,
     bound: u16,
     seen: &mut Seen,
 ) -> Result<(), String> {
-    let by_rule_of = |kind| reference::reduce(segments, kind, rule, bound);
-    let Some(earlier) = by_rule_of(pacer::Kind::SUM.0) else {
+    let now = reference::reduce(segments, kind, rule, bound);
+    let before = reference::reduce_by(segments, kind, Half::Lower, rule, bound);
+    let counts = |answer: &Option<Reduction>| {
+        let answer = answer.as_ref()?;
+        Some((answer.rows.len(), answer.error, answer.weighed))
+    };
+    same("counts of before", counts(&now), counts(&before))?;
+    let (Some(now), Some(then)) = (&now, &before) else {
         return Ok(());
     };
-    let slot = reference::layout(
-        reference::BY_BOUND,
-        reference::GREATEST,
-        earlier.error,
-        &earlier.rows,
-    );
+    for (row, earlier) in now.rows.iter().zip(&then.rows) {
+        let frames = |row: &Stretch| (row.group, row.first, row.last);
+        same("frames of a row", frames(row), frames(earlier))?;
+        let inside =
+            |s: &&Stretch| s.group == row.group && row.first <= s.first && s.last <= row.last;
+        let twice: u64 = segments
+            .iter()
+            .filter(inside)
+            .map(|s| 2 * s.length() * u64::from(s.value))
+            .sum();
+        let half = twice == (2 * u64::from(earlier.value) + 1) * row.length();
+        let risen = u32::from(half && kind != reference::GREATEST);
+        same("value of a row", row.value, earlier.value + risen)?;
+        seen.halves[usize::from(kind)] += u64::from(risen);
+    }
+    if now.rows == then.rows {
+        return Ok(());
+    }
+    earlier_slot(random, kind, segments, rule, bound, before, seen)
+}
+
+/// The calls on a slot as it was written before: with the lower number at a half and, of the
+/// greatest load, with nearest whole numbers at first. It is read, walked and looked up as it is.
+fn earlier_slot(
+    random: &mut Random,
+    kind: u8,
+    segments: &[Stretch],
+    rule: u8,
+    bound: u16,
+    earlier: Option<Reduction>,
+    seen: &mut Seen,
+) -> Result<(), String> {
+    let Some(earlier) = earlier else {
+        return Ok(());
+    };
+    let slot = reference::layout(reference::BY_BOUND, kind, earlier.error, &earlier.rows);
     let read = reference::read(&slot).map(|contents| contents.rows);
     same("the reference", read, Ok(earlier.rows.clone()))?;
-    let now = by_rule_of(reference::GREATEST).map(|reduction| reduction.rows);
-    seen.earlier += u64::from(now != Some(earlier.rows));
+    let now = reference::reduce(segments, kind, rule, bound).map(|reduction| reduction.rows);
+    seen.earlier[usize::from(kind)] += u64::from(now != Some(earlier.rows));
     slot_calls(random, &slot, seen)
 }
 

@@ -12,6 +12,18 @@ use reference::Stretch;
 pub struct Tried {
     pub queries: u64,
     pub refused: u64,
+    /// Rows for which two numbers are equally good, by kind.
+    pub halves: [u64; 5],
+}
+
+impl Tried {
+    pub fn join(&mut self, other: &Tried) {
+        self.queries += other.queries;
+        self.refused += other.refused;
+        for (a, b) in self.halves.iter_mut().zip(&other.halves) {
+            *a += b;
+        }
+    }
 }
 
 /// What the library writes and reads back: the rows and the error, or the question.
@@ -26,14 +38,32 @@ fn outcome(kind: u8, bound: Bound, log: &[u8]) -> Result<(Vec<Stretch>, u64), u8
     Ok((stretches(&profile), profile.error()))
 }
 
-/// The rows of the answer are a list that fits for the kind, and the error is theirs.
-fn fitting(kind: u8, rows: &[Stretch], error: u64, frames: &[Frame]) -> Result<(), String> {
+/// The rows of the answer are a list that fits for the kind, the error is theirs, and each holds
+/// the greatest of the numbers that are best for its frames.
+fn fitting(
+    kind: u8,
+    rows: &[Stretch],
+    error: u64,
+    frames: &[Frame],
+    tried: &mut Tried,
+) -> Result<(), String> {
     same("the rows fit", brute::fits(rows, frames, kind), true)?;
     same(
         "the error frame by frame",
         error,
         brute::squared_error(rows, frames),
-    )
+    )?;
+    for row in rows {
+        let held: Vec<Frame> = frames
+            .iter()
+            .copied()
+            .filter(|(group, frame, _)| row.contains(*group, *frame))
+            .collect();
+        let (number, equally_good) = brute::best_number(&held, kind);
+        same("the best number of a row", i64::from(row.value), number)?;
+        tried.halves[usize::from(kind)] += u64::from(equally_good > 1);
+    }
+    Ok(())
 }
 
 /// Holds the library's answer to the error and row count of the best list, and to question 10 if there is none. Gives the rows.
@@ -49,7 +79,7 @@ fn hold(
     match (outcome(kind, bound, log), best) {
         (Ok((rows, error)), Some(best)) => {
             same("error and row count", (error, rows.len()), best)?;
-            fitting(kind, &rows, error, frames)?;
+            fitting(kind, &rows, error, frames, tried)?;
             Ok(Some(rows))
         }
         (Err(question), None) => {

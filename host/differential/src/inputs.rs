@@ -2,7 +2,7 @@
 
 use crate::random::Random;
 use crate::windows::Windows;
-use reference::{Stretch, Table};
+use reference::{Half, Stretch, Table};
 
 /// A record: group, first, last, load.
 pub type Fields = (u8, u16, u16, u16);
@@ -272,7 +272,7 @@ pub fn bound(random: &mut Random, segments: &[Stretch], kind: u8) -> (u8, u16) {
         // The least share that some number of rows meets, or one beside it.
         _ if n > 0 && n <= 48 && m <= n => {
             let k = random.range(m, n) as usize;
-            let mut table = Table::new(segments, kind);
+            let mut table = Table::new(segments, kind, Half::Upper);
             while table.rows() < k {
                 table.grow();
             }

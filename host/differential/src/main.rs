@@ -125,8 +125,7 @@ fn run_all(part: Part, seed: u64, cases: u64) -> Result<Counts, (u64, String)> {
         match result {
             Ok(counts) => {
                 all.seen.join(&counts.seen);
-                all.tried.queries += counts.tried.queries;
-                all.tried.refused += counts.tried.refused;
+                all.tried.join(&counts.tried);
                 all.gone.queries += counts.gone.queries;
                 all.gone.rows += counts.gone.rows;
             }
@@ -195,6 +194,15 @@ fn zeros(call: &str, counts: &ByQuestion, questions: &[usize]) -> Vec<String> {
         .collect()
 }
 
+/// The kinds of which no row was at a half; that of the greatest load has none.
+fn without_halves(counts: &[u64; 5]) -> Vec<String> {
+    let kinds = (0..counts.len()).filter(|kind| *kind != usize::from(reference::GREATEST));
+    kinds
+        .filter(|kind| counts[*kind] == 0)
+        .map(|kind| format!("a half of kind {kind}"))
+        .collect()
+}
+
 /// The questions that a call asks but that no case failed, and what else no case had.
 fn unreached(seen: &Seen) -> Vec<String> {
     let calls: [(&str, &ByQuestion, &[usize]); 4] = [
@@ -204,8 +212,11 @@ fn unreached(seen: &Seen) -> Vec<String> {
         ("record", &seen.record, &[0, 1, 7, 8, 9]),
     ];
     let mut missing = unreached_by_windows(seen);
-    if seen.earlier == 0 {
-        missing.push("a slot by the rule of before".to_string());
+    missing.extend(without_halves(&seen.halves));
+    for (kind, count) in seen.earlier.iter().enumerate() {
+        if *count == 0 {
+            missing.push(format!("a slot of before of kind {kind}"));
+        }
     }
     for (call, counts, questions) in calls {
         missing.extend(zeros(call, counts, questions));
@@ -307,8 +318,8 @@ fn main() -> ExitCode {
                     seen.most_segments, seen.most_rows, seen.most_weighed
                 );
                 println!(
-                    "  slots of the greatest load by the rule of before, with other rows: {}",
-                    seen.earlier
+                    "  by kind, rows risen at a half {:?}, slots of before with other rows {:?}",
+                    seen.halves, seen.earlier
                 );
                 let missing = unreached(seen);
                 if cases >= CASES && !missing.is_empty() {
@@ -316,10 +327,19 @@ fn main() -> ExitCode {
                     return ExitCode::FAILURE;
                 }
             }
-            Part::Small => println!(
-                "{cases} small logs against every fitting list, {} queries, {} refused: no difference ({seconds:.1} s)",
-                counts.tried.queries, counts.tried.refused
-            ),
+            Part::Small => {
+                let tried = &counts.tried;
+                println!(
+                    "{cases} small logs against every fitting list, {} queries, {} refused: no difference ({seconds:.1} s)",
+                    tried.queries, tried.refused
+                );
+                println!("  rows with two equally good numbers, by kind {:?}", tried.halves);
+                let missing = without_halves(&tried.halves);
+                if !missing.is_empty() {
+                    println!("no case gave: {}", missing.join(", "));
+                    return ExitCode::FAILURE;
+                }
+            }
             Part::Many => println!(
                 "{cases} logs against a table over their frames, {} queries, {} refused: no difference ({seconds:.1} s)",
                 counts.tried.queries, counts.tried.refused

@@ -110,7 +110,7 @@ pub struct Row {
     pub first: u16,
     /// The last frame, included.
     pub last: u16,
-    /// By a bound: the whole number nearest to the mean of the frames' values, the lower one at a
+    /// By a bound: the whole number nearest to the mean of the frames' values, the upper one at a
     /// half, and of kind 3 the greatest of them. By windows: the kind's value over the records of
     /// the group that contain at least one of the frames.
     pub value: u32,

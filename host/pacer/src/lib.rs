@@ -78,6 +78,26 @@ pub struct Kind(pub u8);
 
 impl Kind {
     /// The sum of the loads.
+    ///
+    /// By a bound, a row holds the whole number nearest to the mean of its frames' values, and the
+    /// upper one where two are equally near.
+    ///
+    /// ```
+    /// use pacer::{Bound, Kind, Query, Record};
+    ///
+    /// # fn main() -> Result<(), pacer::Refusal> {
+    /// // Loads 0 and 1 in one row: their mean is a half, and halves go up.
+    /// let log = pacer::log(&[
+    ///     Record { group: 0, first: 0, last: 0, load: 0 },
+    ///     Record { group: 0, first: 1, last: 1, load: 1 },
+    /// ])?;
+    /// let mut slot = [0; pacer::SLOT_BYTES];
+    /// let query = Query { kind: Kind::SUM, bound: Bound::Rows(1) };
+    /// assert_eq!(pacer::query(query, &log, &mut slot)?.error, 1);
+    /// assert_eq!(pacer::lookup(&slot, 0, 0)?, Some(1));
+    /// # Ok(())
+    /// # }
+    /// ```
     pub const SUM: Kind = Kind(0);
     /// The count of records.
     pub const COUNT: Kind = Kind(1);
@@ -87,7 +107,7 @@ impl Kind {
     ///
     /// By a bound, a row of this kind holds the greatest value in it, and its error is taken from
     /// that, so that no frame needs more than its row says. Rows of every other kind hold the
-    /// whole number nearest to the mean.
+    /// whole number nearest to the mean, the upper one at a half.
     ///
     /// ```
     /// use pacer::{Bound, Kind, Query, Record};

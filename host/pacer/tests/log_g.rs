@@ -246,27 +246,87 @@ fn greatest_of_g() {
     }
 }
 
-/// A slot of kind 3 that was written before its rows held the greatest value: the three rows of G
-/// with the nearest mean, 173, in the first. It is read, walked and looked up as ever.
+/// Halves go up in every row, by every kind but 3: the values 0 and 1, 500 and 501, 900 and 907 in
+/// three rows, and 127,000 once with 128,000 1,999 times.
 #[test]
-fn slot_of_before() {
-    let rows = [row(0, 0, 6, 173), row(0, 9, 10, 50), row(1, 0, 0, 7)];
+fn halves() {
+    let frames: Vec<Record> = (0u16..)
+        .zip([0, 1, 500, 501, 900, 907])
+        .map(|(frame, load)| Record {
+            group: 0,
+            first: frame,
+            last: frame,
+            load,
+        })
+        .collect();
+    let log = pacer::log(&frames).unwrap();
+    let up = [row(0, 0, 1, 1), row(0, 2, 3, 501), row(0, 4, 5, 904)];
+    let greatest = [row(0, 0, 1, 1), row(0, 2, 3, 501), row(0, 4, 5, 907)];
+    for (kind, rows, error) in [
+        (Kind::SUM, up, 27),
+        (Kind::LEAST, up, 27),
+        (Kind::GREATEST, greatest, 51),
+    ] {
+        let mut slot = [0; SLOT_BYTES];
+        let bound = Bound::Rows(3);
+        let answer = pacer::query(Query { kind, bound }, &log, &mut slot).unwrap();
+        assert_eq!(answer.error, error);
+        assert_eq!(pacer::read(&slot).unwrap().rows(), rows, "{kind:?}");
+    }
+
+    let mut records = vec![
+        Record {
+            group: 3,
+            first: 0,
+            last: 1999,
+            load: 1000,
+        };
+        128
+    ];
+    records[60].first = 1;
+    let log = pacer::log(&records).unwrap();
+    for (kind, value, error) in [(Kind::SUM, 128_000, 1_000_000), (Kind::COUNT, 128, 1)] {
+        let mut slot = [0; SLOT_BYTES];
+        let bound = Bound::Rows(1);
+        let answer = pacer::query(Query { kind, bound }, &log, &mut slot).unwrap();
+        assert_eq!(
+            (answer.error, pacer::lookup(&slot, 3, 7)),
+            (error, Ok(Some(value)))
+        );
+    }
+}
+
+/// Slots that were written before: of kind 3, before its rows held the greatest value, the three
+/// rows of G with the nearest mean, 173, in the first; and a row with the lower number at a half.
+/// They are read, walked and looked up as ever.
+#[test]
+fn slots_of_before() {
+    let nearest = [row(0, 0, 6, 173), row(0, 9, 10, 50), row(1, 0, 0, 7)];
+    slot_of_before(Kind::GREATEST, 14_943, &nearest);
+    slot_of_before(Kind::SUM, 1, &[row(0, 0, 1, 0)]);
+}
+
+fn slot_of_before(kind: Kind, error: u64, rows: &[Row]) {
     let mut slot = [0; SLOT_BYTES];
-    slot[..4].copy_from_slice(&[0x50, 0x48, 3, 3]);
-    slot[4..12].copy_from_slice(&14_943u64.to_le_bytes());
-    for (place, row) in slot[12..].chunks_exact_mut(11).zip(&rows) {
+    slot[..4].copy_from_slice(&[0x50, 0x48, kind.0, rows.len() as u8]);
+    slot[4..12].copy_from_slice(&error.to_le_bytes());
+    for (place, row) in slot[12..].chunks_exact_mut(11).zip(rows) {
         place[..3].copy_from_slice(&[0x50, 0x52, row.group]);
         place[3..5].copy_from_slice(&row.first.to_le_bytes());
         place[5..7].copy_from_slice(&row.last.to_le_bytes());
         place[7..].copy_from_slice(&row.value.to_le_bytes());
     }
     let profile = pacer::read(&slot).unwrap();
-    assert_eq!((profile.kind(), profile.error()), (Kind::GREATEST, 14_943));
+    assert_eq!((profile.kind(), profile.error()), (kind, error));
     assert_eq!(profile.rows(), rows);
-    assert_eq!(pacer::lookup(&slot, 0, 6), Ok(Some(173)));
+    let first = rows[0];
+    assert_eq!(
+        pacer::lookup(&slot, first.group, first.last),
+        Ok(Some(first.value))
+    );
     let mut walker = Walker::new(&slot);
     for row in rows {
-        assert_eq!(walker.step(), Ok(Some(row)));
+        assert_eq!(walker.step(), Ok(Some(*row)));
     }
     assert_eq!(walker.step(), Ok(None));
 }

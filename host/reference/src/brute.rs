@@ -5,7 +5,7 @@
 //! greatest load only numbers fit that are nowhere below a value in the row. A window is its
 //! frames, and the records that meet it are those found at one of them.
 
-use crate::{aggregate, Record, Stretch, Window, GREATEST};
+use crate::{aggregate, Half, Record, Stretch, Window, GREATEST};
 use std::collections::BTreeSet;
 
 /// A covered frame: group, frame and value.
@@ -61,7 +61,7 @@ fn joined(frames: &[Frame], i: usize) -> bool {
 
 /// The numbers tried for a row: all from one below the least value to two above the greatest,
 /// and some negative ones; by the kind of the greatest load those that no value is above.
-fn candidates(row: &[Frame], kind: u8) -> impl Iterator<Item = i64> + '_ {
+fn candidates(row: &[Frame], kind: u8) -> impl Iterator<Item = i64> + Clone + '_ {
     let least = row.iter().map(|f| i64::from(f.2)).min().unwrap_or(0);
     let greatest = row.iter().map(|f| i64::from(f.2)).max().unwrap_or(0);
     let negative = [-1000, -2, -1].into_iter().filter(move |x| *x < least - 1);
@@ -75,6 +75,14 @@ fn row_error(row: &[Frame], number: i64) -> u64 {
     row.iter()
         .map(|f| (i64::from(f.2) - number).pow(2) as u64)
         .sum()
+}
+
+/// The number of a row: of those with the least error the greatest, and how many these are.
+pub fn best_number(row: &[Frame], kind: u8) -> (i64, usize) {
+    let least = candidates(row, kind).map(|x| row_error(row, x)).min();
+    let best = candidates(row, kind).filter(|x| Some(row_error(row, *x)) == least);
+    let number = best.clone().max().expect("a row has candidates");
+    (number, best.count())
 }
 
 fn keep_least(place: &mut Option<u64>, error: u64) {
@@ -216,7 +224,7 @@ pub fn best_cutting(
             continue;
         }
         let error = blocks(segments, &ends)
-            .map(|block| crate::error_of(block, kind))
+            .map(|block| crate::error_of(block, kind, Half::Upper))
             .sum();
         let better = match &best {
             None => true,
@@ -231,7 +239,7 @@ pub fn best_cutting(
     }
     best.map(|(_, ends)| {
         let mut rows: Vec<Stretch> = blocks(segments, &ends)
-            .map(|block| crate::row_of(block, kind))
+            .map(|block| crate::row_of(block, kind, Half::Upper))
             .collect();
         rows.reverse();
         rows

@@ -12,6 +12,8 @@
 
 pub mod brute;
 
+use std::cmp::Ordering;
+
 /// The bound is a row limit.
 pub const ROWS: u8 = 0x52;
 /// The bound is an error share.
@@ -260,32 +262,42 @@ pub fn runs(segments: &[Stretch]) -> usize {
     }
 }
 
-/// The whole number nearest to the mean of a block, the lower one at a half.
-fn nearest(block: &[Stretch]) -> u64 {
+/// Which of two equally near whole numbers a row holds: the upper one, or the lower one, as rows
+/// did that were written before halves went up.
+#[derive(Clone, Copy, Debug, PartialEq, Eq)]
+pub enum Half {
+    Upper,
+    Lower,
+}
+
+/// The whole number nearest to the mean of a block.
+fn nearest(block: &[Stretch], half: Half) -> u64 {
     let length: u64 = block.iter().map(Stretch::length).sum();
     let total: u64 = block.iter().map(|s| s.length() * u64::from(s.value)).sum();
     let below = total / length;
-    let rest = total - below * length;
-    if 2 * rest > length {
-        below + 1
-    } else {
-        below
+    let above = below + 1;
+    // How far the mean lies from the two, times the length.
+    match (total - below * length).cmp(&(above * length - total)) {
+        Ordering::Less => below,
+        Ordering::Greater => above,
+        Ordering::Equal if half == Half::Upper => above,
+        Ordering::Equal => below,
     }
 }
 
 /// The row value of a block: by the kind of the greatest load its greatest value, by every other
 /// kind the nearest whole number.
-fn row_value(block: &[Stretch], kind: u8) -> u64 {
+fn row_value(block: &[Stretch], kind: u8, half: Half) -> u64 {
     if kind == GREATEST {
         block.iter().map(|s| u64::from(s.value)).max().unwrap_or(0)
     } else {
-        nearest(block)
+        nearest(block, half)
     }
 }
 
 /// The error of a block: length times squared difference to the row value, summed.
-fn error_of(block: &[Stretch], kind: u8) -> u64 {
-    let number = row_value(block, kind);
+fn error_of(block: &[Stretch], kind: u8, half: Half) -> u64 {
+    let number = row_value(block, kind, half);
     block
         .iter()
         .map(|s| s.length() * u64::from(s.value).abs_diff(number).pow(2))
@@ -293,12 +305,12 @@ fn error_of(block: &[Stretch], kind: u8) -> u64 {
 }
 
 /// The row of a block.
-fn row_of(block: &[Stretch], kind: u8) -> Stretch {
+fn row_of(block: &[Stretch], kind: u8, half: Half) -> Stretch {
     Stretch {
         group: block[0].group,
         first: block[0].first,
         last: block[block.len() - 1].last,
-        value: row_value(block, kind) as u32,
+        value: row_value(block, kind, half) as u32,
     }
 }
 
@@ -309,6 +321,7 @@ fn row_of(block: &[Stretch], kind: u8) -> Stretch {
 pub struct Table<'a> {
     segments: &'a [Stretch],
     kind: u8,
+    half: Half,
     /// The last gap below i, 0 if there is none, at place i.
     gap: Vec<usize>,
     /// The error of block j + 1 to i, none if a gap lies within, at places j and i.
@@ -323,7 +336,7 @@ pub struct Table<'a> {
 
 impl<'a> Table<'a> {
     /// A table with no row yet.
-    pub fn new(segments: &'a [Stretch], kind: u8) -> Self {
+    pub fn new(segments: &'a [Stretch], kind: u8, half: Half) -> Self {
         let n = segments.len();
         let mut gap = vec![0; n + 1];
         for i in 2..=n {
@@ -337,13 +350,14 @@ impl<'a> Table<'a> {
         let block = (0..n)
             .map(|j| {
                 (0..=n)
-                    .map(|i| (i > j && gap[i] <= j).then(|| error_of(&segments[j..i], kind)))
+                    .map(|i| (i > j && gap[i] <= j).then(|| error_of(&segments[j..i], kind, half)))
                     .collect()
             })
             .collect();
         Table {
             segments,
             kind,
+            half,
             gap,
             block,
             least: Vec::new(),
@@ -420,7 +434,7 @@ impl<'a> Table<'a> {
         let mut end = self.segments.len();
         for k in (1..=k).rev() {
             let start = self.cut[k - 1][end];
-            rows.push(row_of(&self.segments[start..end], self.kind));
+            rows.push(row_of(&self.segments[start..end], self.kind, self.half));
             end = start;
         }
         rows.reverse();
@@ -439,6 +453,17 @@ pub struct Reduction {
 /// The best reduction of some segments under a row limit or a share, with row values by the kind;
 /// none if there are too few rows for it.
 pub fn reduce(segments: &[Stretch], kind: u8, rule: u8, bound: u16) -> Option<Reduction> {
+    reduce_by(segments, kind, Half::Upper, rule, bound)
+}
+
+/// The same with either number at a half.
+pub fn reduce_by(
+    segments: &[Stretch],
+    kind: u8,
+    half: Half,
+    rule: u8,
+    bound: u16,
+) -> Option<Reduction> {
     let n = segments.len();
     let m = runs(segments);
     let bound = usize::from(bound);
@@ -452,7 +477,7 @@ pub fn reduce(segments: &[Stretch], kind: u8, rule: u8, bound: u16) -> Option<Re
             weighed: 0,
         });
     }
-    let mut table = Table::new(segments, kind);
+    let mut table = Table::new(segments, kind, half);
     let chosen = if rule == ROWS {
         while table.rows() < bound.min(n) {
             table.grow();
@@ -748,6 +773,28 @@ mod tests {
         assert_eq!(early.weighed, 5);
     }
 
+    /// A half goes up, by every kind but that of the greatest load, and a third does not; the error
+    /// is that of the lower number.
+    #[test]
+    fn halves() {
+        let one_row = |kind, half, loads: &[u16]| {
+            let records: Vec<_> = (0u16..).zip(loads).map(|(f, l)| (0, f, f, *l)).collect();
+            let found = segments(&log(&records), kind, 255).unwrap();
+            let answer = reduce_by(&found, kind, half, ROWS, 1).unwrap();
+            (answer.rows[0].value, answer.error)
+        };
+        for kind in [0, 2] {
+            assert_eq!(one_row(kind, Half::Upper, &[0, 1]), (1, 1));
+            assert_eq!(one_row(kind, Half::Lower, &[0, 1]), (0, 1));
+            assert_eq!(one_row(kind, Half::Upper, &[0, 1, 0]), (0, 1));
+            assert_eq!(one_row(kind, Half::Upper, &[7, 10]), (9, 5));
+            assert_eq!(one_row(kind, Half::Lower, &[7, 10]), (8, 5));
+        }
+        assert_eq!(one_row(4, Half::Upper, &[0, 1]), (50, 5000));
+        assert_eq!(one_row(GREATEST, Half::Upper, &[0, 1]), (1, 1));
+        assert_eq!(one_row(GREATEST, Half::Lower, &[7, 10]), (10, 9));
+    }
+
     /// Means in hundredths, rounded down; the means of G are cut at another frame than its sums.
     #[test]
     fn means() {
@@ -914,7 +961,7 @@ mod tests {
             (1, 7, 8, 500),
         ]);
         let segments = segments(&log, 0, 255).unwrap();
-        let mut table = Table::new(&segments, 0);
+        let mut table = Table::new(&segments, 0, Half::Upper);
         for _ in 0..4 {
             table.grow();
         }

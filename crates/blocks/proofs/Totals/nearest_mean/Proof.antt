@@ -18,9 +18,6 @@ add-result : tie.Need-add-result
 unfolding totalsIn
 add-result c = let room = c .before .before .before .before .pre in omega arith
 
-sub-result : tie.Need-sub-result
-sub-result c = search needs
-
 mul-result-2 : tie.Need-mul-result-2
 unfolding totalsIn
 mul-result-2 c = let room = c .before .before .before .before .before .pre in omega arith
@@ -33,4 +30,4 @@ returns-2 c = nearest-by-division _ _ (omega arith)
 
 pub nearest-mean-spec : {M : Type 1} → statement M
 nearest-mean-spec =
-    tie.close (tie.spec returns mul-result add-result sub-result mul-result-2 div-result returns-2)
+    tie.close (tie.spec returns mul-result add-result mul-result-2 div-result returns-2)
