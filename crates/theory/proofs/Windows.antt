@@ -1,14 +1,13 @@
 -- Span aggregation: the windows of a rule are in order, the rows by windows are the span aggregation of a log and the only one, they
 -- can be stored, and windows of one frame give the frames' own values. Assumes nothing.
-use Prim.Native.Nat.{ℕ, zero, suc, _+_, _-_, _*_, _/_, _%_, _^_, _≤_, _<_, zero-le, min}
-use mathlib.Core.Bool.{Bool, true, false, _&&_, cond}
-use mathlib.Core.List.{List, [], _∷_, _++_, append-nil, List·Memᴰ, List·Memᴰ·head, List·Memᴰ·tail}
-use mathlib.Core.List.{List·Memᴰ·not-nil, List·Memᴰ·cases-cons, List·Memᴰ·append-cases, Memᴰ·append-left, Memᴰ·append-right}
+use Prim.Native.Nat.{ℕ, zero, suc, _+_, _-_, _*_, _/_, _^_, _≤_, _<_, zero-le}
+use mathlib.Core.Bool.{Bool, true, _&&_}
+use mathlib.Core.List.{List, [], _∷_, _++_, List·Memᴰ, List·Memᴰ·head, List·Memᴰ·tail}
+use mathlib.Core.List.{List·Memᴰ·not-nil, List·Memᴰ·cases-cons, Memᴰ·append-left, Memᴰ·append-right}
 use mathlib.Core.Logic.{_⊎_, inl, inr, ⊎-elim, _↔_}
 use mathlib.Core.Option.{Option, none, some}
 use mathlib.Core.Path.{_≡_, refl, sym, ap, _∙_, subst}
-use native.Mathlib.Nat.{zero-add, le-refl, le-trans, lt-of-not-le, mul-le-mul-left, div-add-mod', mod-lt}
-use native.Mathlib.Decide.{decLe}
+use native.Mathlib.Nat.{zero-add, le-refl, le-trans, le-div-iff-mul-le}
 use native.Mathlib.Omega.{arith}
 use lib.Dec.{leb, ltb, eqb}
 use lib.ListN.{length, getD}
@@ -120,18 +119,12 @@ every-at test from (suc count) all i a b =
     (λ e. every-at test (suc from) count (both .1) i (omega (arith, eqb-false from i e)) (omega arith))
 
 -- how many windows begin at a frame
-beat-begins : (frames start i : ℕ) → 0 < frames → (i < beatCount frames start) ↔ (start + frames * i < frameCount)
-unfolding beatCount
+pub beat-begins : (frames start i : ℕ) → 0 < frames → (i < beatCount frames start) ↔ (start + frames * i < frameCount)
+unfolding beatCount frameCount
 beat-begins frames start i some-frames =
-    let n = frameCount - start + (frames - 1) in
-    let parts = div-add-mod' n frames in
-    let left = mod-lt n some-frames in (
-      λ lt. let le = mul-le-mul-left frames lt in omega arith,
-      λ lt. elim (decLe (n / frames) i) [
-        | yes le ↦ let more = mul-le-mul-left frames le in absurd (omega arith)
-        | no above ↦ lt-of-not-le above
-      ],
-    )
+    let divides : (suc i ≤ (65536 - start + (frames - 1)) / frames) ↔ (suc i * frames ≤ 65536 - start + (frames - 1)) =
+    le-div-iff-mul-le {x = suc i} some-frames in
+    (λ lt. let whole = divides .0 lt in omega arith, λ lt. divides .1 (omega arith))
 
 -- windows every so many frames
 beats-chain : (frames start : ℕ) → 0 < frames → Chain Proper Ahead (listFrom 0 (beatCount frames start) (beat frames start))

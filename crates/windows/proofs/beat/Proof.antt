@@ -5,13 +5,14 @@ use mathlib.Core.Path.{_≡_, _∙_}
 use native.Mathlib.Omega.{arith}
 use Rattle.model.specs.Spans.{frameCount}
 use Rattle.model.specs.Windows.{beat}
-use Rattle.windows.proofs.Beats.{begins}
+use Rattle.theory.proofs.Windows.{beat-begins}
 use Rattle.windows.proofs.beat.Statement.{statement}
 use Rattle.windows.proofs.beat.Tie as tie
 
 -- the window's first frame is a frame
 at-frame : (s : tie.Start) → s .args .start + s .args .length * s .args .i ≤ 65535
-at-frame s = begins (s .args .length) (s .args .start) (s .pre .0) (s .args .i) (s .pre .1)
+unfolding frameCount
+at-frame s = omega (arith, beat-begins (s .args .length) (s .args .start) (s .args .i) (s .pre .0) .0 (s .pre .1))
 
 -- and is what the code works out
 first : (c : tie.After-wide2)
