@@ -73,8 +73,7 @@ pub extern "C" fn pacer_query_beats(
     ensures holds { λ _. ⌜ now (slot .exit) ≡ ruledSlot (beatQuery kind frames start) (now (log .entry)) (now (slot .entry)) ⌝ }
     ensures promise { λ r. ⌜ RuledFields (beatQuery kind frames start) (now (log .entry)) (now (slot .entry)) r (now (slot .exit)) ⌝ }
 {
-    let query = rules::beats(kind, frames, start);
-    let answer = pacer::query(query, log, slot);
+    let answer = pacer::query_by_beats(kind, frames, start, log, slot);
     answers::of_query(answer)
 }
 
@@ -91,8 +90,7 @@ pub extern "C" fn pacer_query_scenes(
     ensures holds { λ _. ⌜ now (slot .exit) ≡ ruledSlot (sceneQuery kind (now (firsts .entry)) (now (lasts .entry))) (now (log .entry)) (now (slot .entry)) ⌝ }
     ensures promise { λ r. ⌜ RuledFields (sceneQuery kind (now (firsts .entry)) (now (lasts .entry))) (now (log .entry)) (now (slot .entry)) r (now (slot .exit)) ⌝ }
 {
-    let query = rules::scenes(kind, firsts, lasts);
-    let answer = pacer::query(query, log, slot);
+    let answer = pacer::query_by_scenes(kind, firsts, lasts, log, slot);
     answers::of_query(answer)
 }
 

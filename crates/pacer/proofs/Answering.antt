@@ -1,89 +1,78 @@
--- What a query answers and leaves in the slot that is lent, by a rule, a bound or a letter, and what the reader makes of it. Assumes
--- nothing.
+-- What a query leaves in the slot that is lent, what is said of one by a letter, and what the reader makes of the slot. Assumes nothing.
 use Prim.Native.Nat.{ℕ, _≤_}
-use mathlib.Core.Bool.{true, false}
-use mathlib.Core.List.{List, _++_}
+use mathlib.Core.Bool.{true, cond}
+use mathlib.Core.List.{List, _∷_, _++_}
 use mathlib.Core.Option.{none, some}
 use mathlib.Core.Path.{_≡_, refl, sym, ap, _∙_}
-use lib.ListN.{length, drop}
+use lib.ListN.{length, drop, replicate}
 use borrow.Author.Tests.{leb-true}
-use Rattle.model.specs.Windows.{boundIn}
-use Rattle.model.specs.Slot.{slotLength, slotBytes}
-use Rattle.model.specs.Questions.{Outcome, refused, accepted, ask, askRoom, outcome, ruledQuestions}
-use Rattle.model.specs.Calls.{Counts, queryOutcome, querySlot, ruledAnswer, ruledMark, ruledOutcome, ruledSlot, ruleOf, boundedQuery, boundOf, letterQuestions, letterOutcome, letterSlot, readCase, readOutcome, readRows}
+use Rattle.model.specs.Split.{Reduced}
+use Rattle.model.specs.Slot.{slotLength, byBound, slotBytes}
+use Rattle.model.specs.Questions.{Question, Outcome, refused, accepted, ask, askRoom, outcome, lent, queryQuestions, ruledQuestions}
+use Rattle.model.specs.Calls.{Counts, countsOf, queryCase, answerOf, queryOutcome, querySlot, ruledAnswer, ruledMark, ruledOutcome, ruledSlot}
+use Rattle.model.specs.Calls.{boundOf, letterQuestions, letterOutcome, letterSlot, readCase, readOutcome, readRows}
 use Rattle.model.specs.Arrays.{rowsIn, rowArray}
-use Rattle.model.specs.Demands.{BestSlot, QueryPromise, RuledPromise}
+use Rattle.model.specs.Demands.{BestSlot}
 use Rattle.model.specs.declared.Bound.{Bound}
-use Rattle.model.specs.declared.Bound.the-variants.{Rows, Share}
 use Rattle.model.specs.declared.Query.{Query}
 use Rattle.model.specs.declared.RuledQuery.{RuledQuery}
 use Rattle.model.specs.declared.Row.{Row}
 use Rattle.model.specs.declared.Reading.{Reading}
 use Rattle.theory.proofs.Tests.{true≢false}
-use Rattle.theory.proofs.Refusals.{all-head, all-lent, outcome-accepted}
-use Rattle.theory.proofs.Ruled.{bound-outcome, bound-slot}
-use Rattle.theory.proofs.Demands.{demand1, best-never-short}
+use Rattle.theory.proofs.Refusals.{all-head, all-lent, outcome-accepted, refused-lent}
+use Rattle.theory.proofs.Demands.{best-never-short}
+use Rattle.preparing.specs.declared.Prepared.{Prepared}
 use Rattle.preparing.specs.Prepared.{writes, preparedSlot}
-use Rattle.preparing.proofs.Answering.{rows-held, accepted-slot}
+use Rattle.preparing.proofs.Answering.{rows-held, Prepares}
 use Rattle.pacer.specs.Promises.{BestReading, noCounts}
 
 -- ---- the slot that is lent
 
-module _ (q : RuledQuery) (log slot : List ℕ) where
-  written : (counts : Counts) → ruledOutcome q log (length slot) ≡ accepted counts
-      → ruledSlot q log slot
-      ≡ slotBytes (ruledMark q) (q .kind) ((ruledAnswer q log) .error) ((ruledAnswer q log) .rows) ++ drop slotLength slot
-  unfolding ruledOutcome ruledSlot
-  written counts e = all-lent (ruledQuestions q log (length slot)) _ _ (outcome-accepted _ _ counts e .0)
+-- what is stored of something prepared
+abbrev pub storedIn : List ℕ → Prepared → List ℕ
+storedIn slot p = cond (writes (queryCase (p .answer))) (p .bytes ++ drop slotLength slot) slot
 
-  -- a query that does not write keeps it
-  pub keeps : writes (ruledOutcome q log (length slot)) ≡ false → slot ≡ ruledSlot q log slot
-  unfolding writes
-  keeps h = by (ruledOutcome q log (length slot)) refl h
+-- what was prepared of questions of which the first asks for room
+module _ (rest : List Question) (mark kind : ℕ) (given : Reduced) (slot : List ℕ) (p : Prepared) where
+  abbrev asked : List Question
+  asked = askRoom slotLength (length slot) ∷ rest
+
+  -- it has room if it is written; stored, it is what the call leaves in the slot
+  abbrev Stores : Type 0
+  Stores =
+      (writes (queryCase (p .answer)) ≡ true → slotLength ≤ length slot)
+      × (storedIn slot p ≡ lent asked (slotBytes mark kind (given .error) (given .rows) ++ drop slotLength slot) slot)
+
+  stored : Prepares asked mark kind given p → Stores
+  unfolding writes preparedSlot askRoom ask
+  stored (says, bytes) = by (outcome asked (countsOf given)) refl
     where
-      by : (o : Outcome Counts) → ruledOutcome q log (length slot) ≡ o → writes o ≡ false → slot ≡ ruledSlot q log slot
-      by (refused n i) e t = sym (demand1 .ruled q log slot .refusal n i e .1)
-      by (accepted counts) e t = absurd (true≢false t)
-
-  -- an accepted query has room
-  has-room : (counts : Counts) → ruledOutcome q log (length slot) ≡ accepted counts → slotLength ≤ length slot
-  unfolding ruledOutcome ruledQuestions askRoom ask
-  has-room counts e = leb-true _ _ (all-head _ _ (outcome-accepted _ _ counts e .0))
-
-  -- a query that writes has room, and puts what is prepared over the first bytes
-  pub stores : writes (ruledOutcome q log (length slot)) ≡ true
-      → (slotLength ≤ length slot) × (preparedSlot q log (length slot) ++ drop slotLength slot ≡ ruledSlot q log slot)
-  unfolding writes
-  stores h = by (ruledOutcome q log (length slot)) refl h
-    where
-      by : (o : Outcome Counts) → ruledOutcome q log (length slot) ≡ o → writes o ≡ true
-          → (slotLength ≤ length slot) × (preparedSlot q log (length slot) ++ drop slotLength slot ≡ ruledSlot q log slot)
-      by (refused n i) e t = absurd (true≢false (sym t))
-      by (accepted counts) e t = (
-        has-room counts e,
-        rw (← accepted-slot q log (length slot) counts e) (sym (written counts e)),
+      by : (o : Outcome Counts) → outcome asked (countsOf given) ≡ o → Stores
+      by (refused n i) e = (
+        λ h. absurd (true≢false (sym h ∙ ap writes (says ∙ e))),
+        rw (says ∙ e) (sym (refused-lent asked _ n i _ _ e)),
       )
+      by (accepted counts) e =
+          let all = outcome-accepted asked _ counts e .0 in (
+            λ h. leb-true _ _ (all-head _ _ all),
+            rw (says ∙ e, bytes, all-lent asked (slotBytes mark kind (given .error) (given .rows)) (replicate slotLength 0) all)
+                (sym (all-lent asked _ _ all)),
+          )
 
--- ---- a query by a bound
+-- by a bound, and by a rule
+pub stored-by-bound : (q : Query) (log slot : List ℕ) (p : Prepared)
+    → queryCase (p .answer) ≡ queryOutcome q log (length slot)
+    → p .bytes ≡ preparedSlot (queryQuestions q log (length slot)) byBound (q .kind) (answerOf q log)
+    → (writes (queryCase (p .answer)) ≡ true → slotLength ≤ length slot) × (storedIn slot p ≡ querySlot q log slot)
+unfolding queryOutcome queryQuestions querySlot
+stored-by-bound q log slot p says bytes = stored _ byBound (q .kind) (answerOf q log) slot p (says, bytes)
 
--- a bound's rule has that bound
-pub rule-bound : (bound : Bound) → boundIn (ruleOf bound) ≡ some bound
-unfolding boundIn ruleOf
-rule-bound (Rows c) = refl
-rule-bound (Share p) = refl
-
-module _ (q : Query) (log slot : List ℕ) where
-  pub by-bound : (ruledOutcome (boundedQuery q) log (length slot) ≡ queryOutcome q log (length slot))
-      × (ruledSlot (boundedQuery q) log slot ≡ querySlot q log slot)
-  unfolding boundedQuery
-  by-bound =
-      let is = rule-bound (q .bound) in
-      (bound-outcome (boundedQuery q) (q .bound) is log (length slot), bound-slot (boundedQuery q) (q .bound) is log slot)
-
-  pub promised : {says : Outcome Counts} {after : List ℕ} → RuledPromise (boundedQuery q) log slot says after
-      → QueryPromise q log slot says after
-  unfolding boundedQuery
-  promised p = p .bounded (q .bound) (rule-bound (q .bound))
+pub stored-by-rule : (q : RuledQuery) (log slot : List ℕ) (p : Prepared)
+    → queryCase (p .answer) ≡ ruledOutcome q log (length slot)
+    → p .bytes ≡ preparedSlot (ruledQuestions q log (length slot)) (ruledMark q) (q .kind) (ruledAnswer q log)
+    → (writes (queryCase (p .answer)) ≡ true → slotLength ≤ length slot) × (storedIn slot p ≡ ruledSlot q log slot)
+unfolding ruledOutcome ruledQuestions ruledSlot
+stored-by-rule q log slot p says bytes = stored _ (ruledMark q) (q .kind) (ruledAnswer q log) slot p (says, bytes)
 
 -- ---- a letter for the bound
 

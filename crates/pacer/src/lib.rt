@@ -12,19 +12,28 @@ use model::RecordAnswer;
 use model::RuledQuery;
 use model::SLOT_LENGTH;
 use model::Walked;
+use preparing::Prepared;
 use preparing::is_written;
-use preparing::prepare;
+use preparing::prepare_by_bound;
+use preparing::prepare_by_windows;
 use preparing::refused;
-use rules::bounded;
+use rules::bound_of;
+use rules::is_bound;
 ghost use mathlib.Core.Path.{_≡_};
-ghost use lib.ListN.{length};
+ghost use mathlib.Core.Bool.{true, cond};
+ghost use mathlib.Core.List.{_++_};
+ghost use mathlib.Core.Option.{none};
+ghost use Prim.Native.Nat.{_≤_};
+ghost use lib.ListN.{length, drop};
+ghost use Rattle.model.specs.Windows.{boundIn};
 ghost use Rattle.model.specs.Questions.{outcome, accepted};
 ghost use Rattle.model.specs.Calls.{recordSpan, recordCase, writeOutcome, writtenBuffer};
 ghost use Rattle.model.specs.Calls.{Counts, queryCase, queryOutcome, querySlot, letterQuestions, letterOutcome, letterSlot};
-ghost use Rattle.model.specs.Calls.{ruledOutcome, ruledSlot};
+ghost use Rattle.model.specs.Calls.{ruledOutcome, ruledSlot, beatQuery, sceneQuery};
 ghost use Rattle.model.specs.Calls.{readCase, readOutcome, readRows, stepCase, stepOutcome, stepNext, lookupCase, lookupOutcome};
 ghost use Rattle.model.specs.Arrays.{rowArray};
 ghost use Rattle.model.specs.Demands.{QueryPromise, RuledPromise, LetterPromise};
+ghost use Rattle.preparing.specs.Prepared.{writes};
 ghost use Rattle.pacer.specs.Promises.{BestReading, noCounts};
 
 // A query's answer, and what the reader made of the slot after it.
@@ -48,14 +57,13 @@ pub fn query(query: RuledQuery, log: &[u8], slot: &mut [u8]) -> QueryAnswer
     ensures holds { λ _. ⌜ now (slot .exit) ≡ ruledSlot query (now (log .entry)) (now (slot .entry)) ⌝ }
     ensures promise { λ r. ⌜ RuledPromise query (now (log .entry)) (now (slot .entry)) (queryCase r) (now (slot .exit)) ⌝ }
 {
-    let prepared = prepare(query, log, slot.len());
-    let answer = prepared.answer;
-    if !is_written(answer) {
-        return answer;
+    let kind = query.kind;
+    let rule = query.rule;
+    if is_bound(rule) {
+        let bound = bound_of(rule);
+        return query_by_bound(Query { kind, bound }, log, slot);
     }
-    let bytes = prepared.bytes;
-    layout::store(bytes, slot);
-    answer
+    query_by_windows(query, log, slot)
 }
 
 // Answers a query by a bound.
@@ -64,7 +72,70 @@ pub fn query_by_bound(query: Query, log: &[u8], slot: &mut [u8]) -> QueryAnswer
     ensures holds { λ _. ⌜ now (slot .exit) ≡ querySlot query (now (log .entry)) (now (slot .entry)) ⌝ }
     ensures promise { λ r. ⌜ QueryPromise query (now (log .entry)) (now (slot .entry)) (queryCase r) (now (slot .exit)) ⌝ }
 {
-    crate::query(bounded(query), log, slot)
+    let prepared = prepare_by_bound(query, log, slot.len());
+    store(prepared, slot)
+}
+
+// Answers a query by windows every `frames` frames, from frame `start` on.
+pub fn query_by_beats(kind: u8, frames: u16, start: u16, log: &[u8], slot: &mut [u8]) -> QueryAnswer
+    ensures says { λ r. ⌜ queryCase r ≡ ruledOutcome (beatQuery kind frames start) (now (log .entry)) (length (now (slot .entry))) ⌝ }
+    ensures holds { λ _. ⌜ now (slot .exit) ≡ ruledSlot (beatQuery kind frames start) (now (log .entry)) (now (slot .entry)) ⌝ }
+    ensures promise { λ r. ⌜ RuledPromise (beatQuery kind frames start) (now (log .entry)) (now (slot .entry)) (queryCase r) (now (slot .exit)) ⌝ }
+{
+    let query = rules::beats(kind, frames, start);
+    query_by_windows(query, log, slot)
+}
+
+// Answers a query by scenes, from their first and their last frames.
+pub fn query_by_scenes(
+    kind: u8,
+    firsts: &[u16],
+    lasts: &[u16],
+    log: &[u8],
+    slot: &mut [u8],
+) -> QueryAnswer
+    ensures says { λ r. ⌜ queryCase r ≡ ruledOutcome (sceneQuery kind (now (firsts .entry)) (now (lasts .entry))) (now (log .entry)) (length (now (slot .entry))) ⌝ }
+    ensures holds { λ _. ⌜ now (slot .exit) ≡ ruledSlot (sceneQuery kind (now (firsts .entry)) (now (lasts .entry))) (now (log .entry)) (now (slot .entry)) ⌝ }
+    ensures promise { λ r. ⌜ RuledPromise (sceneQuery kind (now (firsts .entry)) (now (lasts .entry))) (now (log .entry)) (now (slot .entry)) (queryCase r) (now (slot .exit)) ⌝ }
+{
+    let query = rules::scenes(kind, firsts, lasts);
+    query_by_windows(query, log, slot)
+}
+
+// Answers a query by windows.
+fn query_by_windows(query: RuledQuery, log: &[u8], slot: &mut [u8]) -> QueryAnswer
+    requires { ⌜ boundIn (query .rule) ≡ none ⌝ }
+    ensures says { λ r. ⌜ queryCase r ≡ ruledOutcome query (now (log .entry)) (length (now (slot .entry))) ⌝ }
+    ensures holds { λ _. ⌜ now (slot .exit) ≡ ruledSlot query (now (log .entry)) (now (slot .entry)) ⌝ }
+    ensures promise { λ r. ⌜ RuledPromise query (now (log .entry)) (now (slot .entry)) (queryCase r) (now (slot .exit)) ⌝ }
+{
+    answer_by_windows(query, log, slot)
+}
+
+// Its answer and slot. This is a function of its own, called from one place, because the compiler finds that the slot need not be
+// copied only when it puts prepared and stored into a further function (docs/DECISIONS.md, 80).
+fn answer_by_windows(query: RuledQuery, log: &[u8], slot: &mut [u8]) -> QueryAnswer
+    requires { ⌜ boundIn (query .rule) ≡ none ⌝ }
+    ensures says { λ r. ⌜ queryCase r ≡ ruledOutcome query (now (log .entry)) (length (now (slot .entry))) ⌝ }
+    ensures holds { λ _. ⌜ now (slot .exit) ≡ ruledSlot query (now (log .entry)) (now (slot .entry)) ⌝ }
+{
+    let prepared = prepare_by_windows(query, log, slot.len());
+    store(prepared, slot)
+}
+
+// Stores what was prepared, where the answer says that the slot is written, and gives the answer.
+fn store(prepared: Prepared, slot: &mut [u8]) -> QueryAnswer
+    requires { ⌜ (writes (queryCase (prepared .answer)) ≡ true → 768 ≤ length (now slot)) ⌝ }
+    ensures says { λ r. ⌜ r ≡ prepared .answer ⌝ }
+    ensures holds { λ _. ⌜ now (slot .exit) ≡ cond (writes (queryCase (prepared .answer))) (prepared .bytes ++ drop 768 (now (slot .entry))) (now (slot .entry)) ⌝ }
+{
+    let answer = prepared.answer;
+    if !is_written(answer) {
+        return answer;
+    }
+    let bytes = prepared.bytes;
+    layout::store(bytes, slot);
+    answer
 }
 
 // Answers a query whose bound is a letter and a number: 52 and a row limit, or 45 and a share.

@@ -1,7 +1,8 @@
 -- A query's questions, asked in parts: what it answers and what its slot holds where a part is refused, and where the last question
--- decides, by a reduction of the log's segments or by the number of rows by windows. Assumes nothing.
+-- decides. This is said once of any questions; a query by a bound, whose last is answered by a reduction of the log's segments, and one
+-- by windows, whose last is answered by the number of its rows, are its two cases. Assumes nothing.
 use Prim.Native.Nat.{ℕ, _≤_, _<_}
-use mathlib.Core.Bool.{true, cond}
+use mathlib.Core.Bool.{true}
 use mathlib.Core.List.{List, [], _∷_, _++_}
 use mathlib.Core.Option.{Option, none, some}
 use mathlib.Core.Path.{_≡_, refl, sym, ap, _∙_}
@@ -14,14 +15,18 @@ use Rattle.model.specs.Common.{isSome}
 use Rattle.model.specs.Spans.{Span, nowhere}
 use Rattle.model.specs.Split.{Reduced, mostRows, countFor, reduced}
 use Rattle.model.specs.Windows.{boundIn}
-use Rattle.model.specs.Slot.{slotLength, byBound, byWindows, slotBytes}
-use Rattle.model.specs.Questions.{Question, refused, accepted, ask, boundKnown, outcome, logQuestions, enoughRows, windowRows, rowsQuestion, ruledOrder, ruledQuestions}
-use Rattle.model.specs.Calls.{Counts, queryCase, logSegments, answerOf, countsOf, ruledAnswer, ruledMark, ruledOutcome, rowSpan, rowOfSpan}
+use Rattle.model.specs.Slot.{slotLength, byBound, byWindows}
+use Rattle.model.specs.Questions.{Question, refused, accepted, ask, boundKnown, outcome, enoughRows, orderQuestions, queryQuestions}
+use Rattle.model.specs.Questions.{windowRows, ruleQuestion, rowsQuestion, ruledOrder, ruledQuestions}
+use Rattle.model.specs.Calls.{queryCase, logSegments, answerOf, countsOf, ruledAnswer, ruledMark, rowSpan, rowOfSpan}
 use Rattle.model.specs.Arrays.{rowsIn, rowArray}
 use Rattle.model.specs.Demands.{AllPass}
 use Rattle.model.specs.declared.Bound.{Bound}
 use Rattle.model.specs.declared.Bound.the-variants.{Rows, Share}
+use Rattle.model.specs.declared.Query.{Query}
 use Rattle.model.specs.declared.RuledQuery.{RuledQuery}
+use Rattle.model.specs.declared.Refusal.{Refusal}
+use Rattle.model.specs.declared.QueryAnswer.the-variants.{Refused}
 use Rattle.theory.proofs.Tests.{none≢some, some-inj, cases}
 use Rattle.theory.proofs.Refusals.{all-tail, all-lent, outcome-accepted, outcome-behind, refused-lent, refused-first}
 use Rattle.theory.proofs.Guarantee.{limitOf}
@@ -31,7 +36,7 @@ use Rattle.choice.specs.Bounds.{Known}
 use Rattle.windows.specs.Listed.{Lists}
 use Rattle.windows.specs.declared.Listing.{Listing}
 use Rattle.preparing.specs.declared.Prepared.{Prepared}
-use Rattle.preparing.specs.Prepared.{earlyQuestions, written, laidOut, listed, answered, preparedSlot}
+use Rattle.preparing.specs.Prepared.{earlyQuestions, aheadOfRows, written, laidOut, listed, preparedSlot}
 
 -- ---- the segments of a log in order
 
@@ -54,18 +59,6 @@ unfolding rowsIn rowArray rowSpan rowOfSpan
 rows-held rows =
     listFrom-of nowhere 0 _ rows
     (λ i lt. rw (zero-add i) (ap rowSpan (map-at rowOfSpan rows _ i nowhere (rowOfSpan nowhere) lt)))
-
--- ---- the slot that is prepared
-
-module _ (q : RuledQuery) (log : List ℕ) (room : ℕ) where
-  pub refused-slot : (n i : ℕ) → ruledOutcome q log room ≡ refused n i → replicate slotLength 0 ≡ preparedSlot q log room
-  unfolding ruledOutcome preparedSlot
-  refused-slot n i e = sym (refused-lent (ruledQuestions q log room) _ n i _ _ e)
-
-  pub accepted-slot : (counts : Counts) → ruledOutcome q log room ≡ accepted counts
-      → slotBytes (ruledMark q) (q .kind) ((ruledAnswer q log) .error) ((ruledAnswer q log) .rows) ≡ preparedSlot q log room
-  unfolding ruledOutcome preparedSlot
-  accepted-slot counts e = sym (all-lent (ruledQuestions q log room) _ _ (outcome-accepted _ _ counts e .0))
 
 -- ---- what answers, and whether there is an answer
 
@@ -104,58 +97,90 @@ listed-rows l rows is few kind =
 
 -- ---- the questions in parts
 
+-- what was prepared is what these questions say of an answer
+abbrev pub Prepares : List Question → ℕ → ℕ → Reduced → Prepared → Type 0
+Prepares questions mark kind given p =
+    (queryCase (p .answer) ≡ outcome questions (countsOf given)) × (p .bytes ≡ preparedSlot questions mark kind given)
+
+-- those ahead of the last, and the last
+module _ (ahead : List Question) (last : Question) (mark kind : ℕ) (given : Reduced) where
+  abbrev all : List Question
+  all = ahead ++ (last ∷ [])
+
+  refused-slot : (n i : ℕ) → outcome all (countsOf given) ≡ refused n i → replicate slotLength 0 ≡ preparedSlot all mark kind given
+  unfolding preparedSlot
+  refused-slot n i e = sym (refused-lent all _ n i _ _ e)
+
+  -- a query refused by one ahead
+  pub refused-early : (refusal : Refusal) → outcome ahead (tt {0}) ≡ refused (refusal .question) (refusal .index)
+      → Prepares all mark kind given (record { answer = Refused refusal; bytes = replicate slotLength 0 })
+  unfolding queryCase
+  refused-early refusal e =
+      let says = refused-first ahead (last ∷ []) (tt {0}) (countsOf given) (refusal .question) (refusal .index) e in
+      (sym says, refused-slot _ _ says)
+
+  -- where those are passed, the last decides: an answer where there is one, laid out, is the query's
+  pub decided : AllPass ahead → (number : ℕ) (o : Option Reduced) → last ≡ ask number 0 (isSome o)
+      → ((d : Reduced) → o ≡ some d → given ≡ d) → (p : Prepared) → p ≡ laidOut mark number kind o → Prepares all mark kind given p
+  unfolding outcome ask laidOut queryCase countsOf isSome preparedSlot
+  decided passed number none decides is p e =
+      let says : outcome all (countsOf given) ≡ refused number 0 = outcome-behind ahead (last ∷ []) _ passed ∙ rw decides in
+      rw e (sym says, refused-slot number 0 says)
+  decided passed number (some d) decides is p e =
+      let says : outcome all (countsOf given) ≡ accepted (countsOf given) = outcome-behind ahead (last ∷ []) _ passed ∙ rw decides in
+      rw (e, ← is d refl) (sym says, sym (all-lent all _ _ (outcome-accepted all _ _ says .0)))
+
+-- by a bound 3 is asked ahead, and 10 last
+module _ (q : Query) (log : List ℕ) (room : ℕ) where
+  abbrev pub aheadOf10 : List Question
+  aheadOf10 = aheadOfRows (q .kind) (ask 3 0 (boundKnown (q .bound))) log room
+
+  pub refused-bound : (refusal : Refusal) → outcome aheadOf10 (tt {0}) ≡ refused (refusal .question) (refusal .index)
+      → Prepares (queryQuestions q log room) byBound (q .kind) (answerOf q log) (record { answer = Refused refusal; bytes = replicate slotLength 0 })
+  unfolding queryQuestions orderQuestions aheadOfRows earlyQuestions
+  refused-bound = refused-early aheadOf10 (ask 10 0 (enoughRows q log)) byBound (q .kind) (answerOf q log)
+
+  module _ (early : outcome aheadOf10 (tt {0}) ≡ accepted tt) where
+    passed-bound : AllPass aheadOf10
+    passed-bound = outcome-accepted _ (tt {0}) (tt {0}) early .0
+
+    -- where those ahead are passed, the query and the log are in order
+    pub bound-in-order : AllPass (orderQuestions q log)
+    unfolding orderQuestions aheadOfRows earlyQuestions
+    bound-in-order = all-tail _ _ passed-bound
+
+    pub bound-laid-out : (p : Prepared) → p ≡ laidOut byBound 10 (q .kind) (reduced (q .kind) (q .bound) (logSegments (q .kind) log))
+        → Prepares (queryQuestions q log room) byBound (q .kind) (answerOf q log) p
+    unfolding queryQuestions orderQuestions aheadOfRows earlyQuestions enoughRows logSegments answerOf
+    bound-laid-out =
+        decided aheadOf10 (ask 10 0 (enoughRows q log)) byBound (q .kind) (answerOf q log) passed-bound 10
+        (reduced (q .kind) (q .bound) (logSegments (q .kind) log))
+        (ap (ask 10 0) (reduced-some (q .kind) (q .bound) (logSegments (q .kind) log)))
+        (λ d is. rw is)
+
+-- by windows 18 or 19, and 20
 module _ (q : RuledQuery) (log : List ℕ) (room : ℕ) where
-  -- those ahead of 10 or 20
-  abbrev pub aheadOfRows : List Question
-  aheadOfRows = earlyQuestions q room ++ logQuestions log
+  abbrev pub aheadOf20 : List Question
+  aheadOf20 = aheadOfRows (q .kind) (ruleQuestion q) log room
 
-  in-parts : ruledQuestions q log room ≡ aheadOfRows ++ (rowsQuestion q log ∷ [])
-  unfolding ruledQuestions ruledOrder earlyQuestions
-  in-parts = refl
+  pub refused-windows : (refusal : Refusal) → outcome aheadOf20 (tt {0}) ≡ refused (refusal .question) (refusal .index)
+      → Prepares (ruledQuestions q log room) (ruledMark q) (q .kind) (ruledAnswer q log) (record { answer = Refused refusal; bytes = replicate slotLength 0 })
+  unfolding ruledQuestions ruledOrder aheadOfRows earlyQuestions
+  refused-windows = refused-early aheadOf20 (rowsQuestion q log) (ruledMark q) (q .kind) (ruledAnswer q log)
 
-  -- a query refused by one of these
-  pub refused-early : (n i : ℕ) → outcome aheadOfRows (tt {0}) ≡ refused n i
-      → (refused n i ≡ ruledOutcome q log room) × (replicate slotLength 0 ≡ preparedSlot q log room)
-  unfolding ruledOutcome
-  refused-early n i e =
-      let says : ruledOutcome q log room ≡ refused n i =
-      rw in-parts (refused-first aheadOfRows (rowsQuestion q log ∷ []) (tt {0}) _ n i e) in
-      (sym says, refused-slot q log room n i says)
+  module _ (early : outcome aheadOf20 (tt {0}) ≡ accepted tt) where
+    passed-windows : AllPass aheadOf20
+    passed-windows = outcome-accepted _ (tt {0}) (tt {0}) early .0
 
-  module _ (early : outcome aheadOfRows (tt {0}) ≡ accepted tt) where
-    passed : AllPass aheadOfRows
-    passed = outcome-accepted _ (tt {0}) (tt {0}) early .0
+    pub windows-in-order : AllPass (ruledOrder q log)
+    unfolding ruledOrder aheadOfRows earlyQuestions
+    windows-in-order = all-tail _ _ passed-windows
 
-    -- where they are passed, the query and the log are in order
-    pub in-order : AllPass (ruledOrder q log)
-    unfolding ruledOrder earlyQuestions
-    in-order = all-tail _ _ passed
-
-    -- and the last question decides: an answer where there is one, laid out, is the query's
-    decided : (mark number : ℕ) (o : Option Reduced) → rowsQuestion q log ≡ ask number 0 (isSome o) → ruledMark q ≡ mark
-        → ((d : Reduced) → o ≡ some d → ruledAnswer q log ≡ d) → (p : Prepared) → p ≡ laidOut mark number (q .kind) o
-        → (queryCase (p .answer) ≡ ruledOutcome q log room) × (p .bytes ≡ preparedSlot q log room)
-    unfolding ruledOutcome outcome ask laidOut queryCase countsOf isSome
-    decided mark number none last marks is p e =
-        let says : ruledOutcome q log room ≡ refused number 0 =
-        rw in-parts (outcome-behind aheadOfRows (rowsQuestion q log ∷ []) _ passed ∙ rw last) in
-        rw e (sym says, refused-slot q log room number 0 says)
-    decided mark number (some d) last marks is p e =
-        let says : ruledOutcome q log room ≡ accepted (countsOf d) =
-        rw in-parts (outcome-behind aheadOfRows (rowsQuestion q log ∷ []) _ passed ∙ rw last (ap (λ r. accepted (countsOf r)) (is d refl))) in
-        rw e (sym says, rw (is d refl, marks) at (accepted-slot q log room (countsOf d) says))
-
-    pub laid-out : (p : Prepared) → p ≡ answered q log
-        → (queryCase (p .answer) ≡ ruledOutcome q log room) × (p .bytes ≡ preparedSlot q log room)
-    unfolding answered rowsQuestion ruledMark ruledAnswer answerOf enoughRows logSegments listed isSome
-    laid-out p e = by (boundIn (q .rule)) refl
-      where
-        by : (o : Option Bound) → boundIn (q .rule) ≡ o
-            → (queryCase (p .answer) ≡ ruledOutcome q log room) × (p .bytes ≡ preparedSlot q log room)
-        by none h =
-            decided byWindows 20 (listed (windowRows q log)) (rw (h, rowsQuestion) (ap (ask 20 0) (listed-some (windowRows q log)))) (rw (h, ruledMark))
-            (λ d is. rw (h, ruledAnswer) (listed-is (windowRows q log) d is)) p (e ∙ rw (h, answered))
-        by (some bound) h =
-            decided byBound 10 (reduced (q .kind) bound (logSegments (q .kind) log))
-            (rw (h, rowsQuestion) (ap (ask 10 0) (reduced-some (q .kind) bound (logSegments (q .kind) log)))) (rw (h, ruledMark))
-            (λ d is. rw (h, ruledAnswer) (rw is)) p (e ∙ rw (h, answered))
+    pub windows-laid-out : boundIn (q .rule) ≡ none → (p : Prepared) → p ≡ laidOut byWindows 20 (q .kind) (listed (windowRows q log))
+        → Prepares (ruledQuestions q log room) (ruledMark q) (q .kind) (ruledAnswer q log) p
+    unfolding ruledQuestions ruledOrder aheadOfRows earlyQuestions rowsQuestion ruledMark ruledAnswer
+    windows-laid-out windowed p e =
+        decided aheadOf20 (rowsQuestion q log) (ruledMark q) (q .kind) (ruledAnswer q log) passed-windows 20 (listed (windowRows q log))
+        (rw (windowed, rowsQuestion) (ap (ask 20 0) (listed-some (windowRows q log))))
+        (λ d is. rw (windowed, ruledAnswer) (listed-is (windowRows q log) d is)) p
+        (e ∙ rw (windowed, ruledMark))

@@ -6,30 +6,28 @@ use cuts::Reduction;
 use model::Asked;
 use model::BY_BOUND;
 use model::BY_WINDOWS;
-use model::Bound;
 use model::MOST_KIND;
 use model::MOST_ROWS;
 use model::Query;
 use model::QueryAnswer;
 use model::Refusal;
 use model::Row;
-use model::Rule;
 use model::RuledQuery;
 use model::SLOT_LENGTH;
+use rules::ask_bound;
+use rules::ask_windows;
 ghost use mathlib.Core.Path.{_≡_};
-ghost use mathlib.Core.List.{_++_};
-ghost use mathlib.Core.Bool.{true};
-ghost use mathlib.Core.Option.{some};
+ghost use mathlib.Core.List.{[], _∷_};
+ghost use mathlib.Core.Option.{none};
 ghost use Prim.Native.Nat.{_≤_};
-ghost use Rattle.model.specs.Common.{isSome};
 ghost use Rattle.model.specs.Split.{reduced};
 ghost use Rattle.model.specs.Windows.{boundIn};
 ghost use Rattle.model.specs.Slot.{byBound, byWindows};
-ghost use Rattle.model.specs.Questions.{outcome, logQuestions, orderQuestions, windowRows, ruledOrder};
-ghost use Rattle.model.specs.Calls.{askedCase, queryCase, logSegments, ruledOutcome};
+ghost use Rattle.model.specs.Questions.{Question, outcome, orderQuestions, queryQuestions, windowRows, ruledOrder, ruledQuestions};
+ghost use Rattle.model.specs.Calls.{askedCase, queryCase, logSegments, answerOf, queryOutcome, ruledAnswer, ruledMark, ruledOutcome};
 ghost use Rattle.model.specs.Arrays.{rowsIn};
 ghost use Rattle.model.specs.Demands.{AllPass};
-ghost use Rattle.preparing.specs.Prepared.{earlyQuestions, writes, written, laidOut, listed, answered, preparedSlot};
+ghost use Rattle.preparing.specs.Prepared.{earlyQuestions, aheadOfRows, writes, written, laidOut, listed, preparedSlot};
 
 // The answer to a query, and the bytes of its slot: zeros in a refusal.
 pub struct Prepared {
@@ -58,24 +56,24 @@ pub fn is_written(answer: QueryAnswer) -> bool
     }
 }
 
-// Questions 1, 2 and that of the rule: 3, 18 or 19.
-fn ask_query(query: RuledQuery, room: usize) -> Asked
-    ensures { λ r. ⌜ askedCase r ≡ outcome (earlyQuestions query room) tt ⌝ }
+// Questions 1 and 2, and behind them what was said of a question of the query's rule.
+fn ask_query(kind: u8, rule: Asked, room: usize) -> Asked
+    ensures { λ r. ⌜ ((question : Question) → askedCase rule ≡ outcome (question ∷ []) tt → askedCase r ≡ outcome (earlyQuestions kind question room) tt) ⌝ }
 {
     if room < SLOT_LENGTH {
         return no(1, 0);
     }
-    if query.kind > MOST_KIND {
+    if kind > MOST_KIND {
         return no(2, 0);
     }
-    rules::ask(query)
+    rule
 }
 
 // These, and then the log's.
-fn ask(query: RuledQuery, log: &[u8], room: usize) -> Asked
-    ensures { λ r. ⌜ askedCase r ≡ outcome (earlyQuestions query room ++ logQuestions (now (log .entry))) tt ⌝ }
+fn ask(kind: u8, rule: Asked, log: &[u8], room: usize) -> Asked
+    ensures { λ r. ⌜ ((question : Question) → askedCase rule ≡ outcome (question ∷ []) tt → askedCase r ≡ outcome (aheadOfRows kind question (now (log .entry)) room) tt) ⌝ }
 {
-    let asked = ask_query(query, room);
+    let asked = ask_query(kind, rule, room);
     match asked {
         Asked::Passed => log::ask(log),
         Asked::Refused(refusal) => Asked::Refused(refusal),
@@ -173,60 +171,34 @@ fn list(query: RuledQuery, log: &[u8]) -> Prepared
     lay_out(BY_WINDOWS, query.kind, unreduced, rows)
 }
 
-// Whether a rule is a bound.
-fn is_bound(rule: Rule) -> bool
-    ensures { λ r. ⌜ r ≡ isSome (boundIn rule) ⌝ }
+// Asks the questions of a query by a bound and works out its slot, where as many bytes are lent. It has the one call of `reduce` and is
+// called from one place itself, so that the compiler puts both in place and does not copy the slot (docs/DECISIONS.md, 80).
+pub fn prepare_by_bound(query: Query, log: &[u8], room: usize) -> Prepared
+    ensures { λ r. ⌜ queryCase (r .answer) ≡ queryOutcome query (now (log .entry)) room ⌝ }
+    ensures { λ r. ⌜ r .bytes ≡ preparedSlot (queryQuestions query (now (log .entry)) room) byBound (query .kind) (answerOf query (now (log .entry))) ⌝ }
 {
-    match rule {
-        Rule::Rows(_) => true,
-        Rule::Share(_) => true,
-        Rule::Every {
-            length: _,
-            start: _,
-        } => false,
-        Rule::Scenes(_) => false,
-    }
-}
-
-// The bound that a rule is.
-fn bound_of(rule: Rule) -> Bound
-    requires { ⌜ isSome (boundIn rule) ≡ true ⌝ }
-    ensures { λ r. ⌜ boundIn rule ≡ some r ⌝ }
-{
-    match rule {
-        Rule::Rows(c) => Bound::Rows(c),
-        Rule::Share(p) => Bound::Share(p),
-        Rule::Every {
-            length: _,
-            start: _,
-        } => Bound::Rows(0),
-        Rule::Scenes(_) => Bound::Rows(0),
-    }
-}
-
-// What a query in order is answered, by its rule. There is one call of `reduce`, so that the compiler puts it in place and its slot is
-// not copied.
-fn answer(query: RuledQuery, log: &[u8]) -> Prepared
-    requires { ⌜ AllPass (ruledOrder query (now log)) ⌝ }
-    ensures { λ r. ⌜ r ≡ answered query (now (log .entry)) ⌝ }
-{
-    let kind = query.kind;
-    let rule = query.rule;
-    if is_bound(rule) {
-        let bound = bound_of(rule);
-        return reduce(Query { kind, bound }, log);
-    }
-    list(query, log)
-}
-
-// Asks a query's questions and works out its slot, where as many bytes are lent.
-pub fn prepare(query: RuledQuery, log: &[u8], room: usize) -> Prepared
-    ensures { λ r. ⌜ queryCase (r .answer) ≡ ruledOutcome query (now (log .entry)) room ⌝ }
-    ensures { λ r. ⌜ r .bytes ≡ preparedSlot query (now (log .entry)) room ⌝ }
-{
-    let asked = ask(query, log, room);
+    let bound = query.bound;
+    let rule = ask_bound(bound);
+    let asked = ask(query.kind, rule, log, room);
     match asked {
-        Asked::Passed => answer(query, log),
+        Asked::Passed => reduce(query, log),
+        Asked::Refused(refusal) => Prepared {
+            answer: QueryAnswer::Refused(refusal),
+            bytes: no_slot(),
+        },
+    }
+}
+
+// The same of a query by windows.
+pub fn prepare_by_windows(query: RuledQuery, log: &[u8], room: usize) -> Prepared
+    requires { ⌜ boundIn (query .rule) ≡ none ⌝ }
+    ensures { λ r. ⌜ queryCase (r .answer) ≡ ruledOutcome query (now (log .entry)) room ⌝ }
+    ensures { λ r. ⌜ r .bytes ≡ preparedSlot (ruledQuestions query (now (log .entry)) room) (ruledMark query) (query .kind) (ruledAnswer query (now (log .entry))) ⌝ }
+{
+    let rule = ask_windows(query);
+    let asked = ask(query.kind, rule, log, room);
+    match asked {
+        Asked::Passed => list(query, log),
         Asked::Refused(refusal) => Prepared {
             answer: QueryAnswer::Refused(refusal),
             bytes: no_slot(),

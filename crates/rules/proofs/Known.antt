@@ -1,4 +1,4 @@
--- Scenes one after the other, and the index of a rule's question. Assumes nothing.
+-- Scenes one after the other. Assumes nothing.
 use Prim.Native.Nat.{ℕ, zero, suc, _+_, _-_, _≤_, _<_}
 use mathlib.Core.Bool.{Bool, _&&_, and-assoc, and-true}
 use mathlib.Core.List.{List}
@@ -10,10 +10,7 @@ use lib.ListN.{getD}
 use borrow.Author.Tests.{le-leb}
 use Rattle.model.specs.Common.{every}
 use Rattle.model.specs.Spans.{frameCount}
-use Rattle.model.specs.Questions.{ask, sceneFollows, sceneKnown, mostScenes, scenesKnown, ruleQuestion}
-use Rattle.model.specs.declared.Rule.{Rule}
-use Rattle.model.specs.declared.Rule.the-variants.{Rows, Share, Every, Scenes}
-use Rattle.model.specs.declared.RuledQuery.{RuledQuery}
+use Rattle.model.specs.Questions.{sceneFollows, sceneKnown, mostScenes, scenesKnown}
 use Rattle.theory.proofs.Lists.{one-more, none-left}
 
 -- ---- one scene after the other
@@ -52,14 +49,3 @@ pub some-scenes : (firsts lasts : List ℕ) (count : ℕ) → (count ≡ 0 → �
     → every (sceneKnown firsts lasts) 0 count ≡ scenesKnown firsts lasts count
 unfolding scenesKnown mostScenes
 some-scenes firsts lasts count some-known few = rw (le-leb 1 count (omega arith), le-leb count 16 few)
-
--- a rule's question has no index
-pub no-index : (q : RuledQuery) → ruleQuestion q .index ≡ 0
-unfolding ruleQuestion ask
-no-index q = by (q .rule) refl
-  where
-    by : (r : Rule) → q .rule ≡ r → ruleQuestion q .index ≡ 0
-    by (Rows c) e = rw (e, ruleQuestion)
-    by (Share p) e = rw (e, ruleQuestion)
-    by (Every length start) e = rw (e, ruleQuestion)
-    by (Scenes count) e = rw (e, ruleQuestion)

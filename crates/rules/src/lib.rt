@@ -1,5 +1,5 @@
 // A query by a rule: it is put together, with a bound, every so many frames from a start frame on, or by scenes, and its rule is asked
-// its own question.
+// its own question. A bound is asked 3, whether or not it came as a rule.
 use common::no;
 use model::Asked;
 use model::Bound;
@@ -10,12 +10,15 @@ use model::Rule;
 use model::RuledQuery;
 ghost use mathlib.Core.Path.{_≡_};
 ghost use mathlib.Core.List.{[], _∷_, _++_};
-ghost use mathlib.Core.Bool.{_&&_, cond};
+ghost use mathlib.Core.Bool.{true, _&&_, cond};
+ghost use mathlib.Core.Option.{none, some};
 ghost use Prim.Native.Nat.{_<_};
 ghost use lib.Dec.{leb, ltb, eqb};
 ghost use lib.ListN.{take};
+ghost use Rattle.model.specs.Common.{isSome};
 ghost use Rattle.model.specs.Spans.{frameCount};
-ghost use Rattle.model.specs.Questions.{outcome, sceneKnown, scenesKnown, ruleQuestion};
+ghost use Rattle.model.specs.Windows.{boundIn};
+ghost use Rattle.model.specs.Questions.{ask, outcome, boundKnown, sceneKnown, scenesKnown, ruleQuestion};
 ghost use Rattle.model.specs.Calls.{askedCase, noFrames, ruleOf, boundedQuery, beatQuery, sceneQuery};
 
 // The frames of no scene.
@@ -144,41 +147,70 @@ fn scenes_are_known<'a>(
     known
 }
 
-// Whether a query's rule is as it must be.
-fn is_known(query: RuledQuery) -> bool
-    ensures { λ r. ⌜ r ≡ ruleQuestion query .passed ⌝ }
+// What is said of a question with no index: that it is passed, or its number.
+fn said(question: u8, passed: bool) -> Asked
+    ensures { λ r. ⌜ askedCase r ≡ outcome (ask question 0 passed ∷ []) tt ⌝ }
 {
-    let rule = query.rule;
-    match rule {
-        Rule::Rows(c) => c <= 64,
-        Rule::Share(p) => p <= MOST_SHARE,
-        Rule::Every { length, start: _ } => length > 0,
-        Rule::Scenes(count) => scenes_are_known(&query.firsts, &query.lasts, count),
+    if passed {
+        return Asked::Passed;
+    }
+    no(question, 0)
+}
+
+// Question 3, of a bound.
+pub fn ask_bound(bound: Bound) -> Asked
+    ensures { λ r. ⌜ askedCase r ≡ outcome (ask 3 0 (boundKnown bound) ∷ []) tt ⌝ }
+{
+    match bound {
+        Bound::Rows(c) => said(3, c <= 64),
+        Bound::Share(p) => said(3, p <= MOST_SHARE),
     }
 }
 
-// The number of the question that a query's rule is asked.
-fn question(query: RuledQuery) -> u8
-    ensures { λ r. ⌜ r ≡ ruleQuestion query .number ⌝ }
+// Question 18 or 19, of a query by windows.
+pub fn ask_windows(query: RuledQuery) -> Asked
+    requires { ⌜ boundIn (query .rule) ≡ none ⌝ }
+    ensures { λ r. ⌜ askedCase r ≡ outcome (ruleQuestion query ∷ []) tt ⌝ }
 {
     let rule = query.rule;
     match rule {
-        Rule::Rows(_) => 3,
-        Rule::Share(_) => 3,
+        Rule::Rows(_) => no(3, 0),
+        Rule::Share(_) => no(3, 0),
+        Rule::Every { length, start: _ } => said(18, length > 0),
+        Rule::Scenes(count) => {
+            let known = scenes_are_known(&query.firsts, &query.lasts, count);
+            said(19, known)
+        }
+    }
+}
+
+// Whether a rule is a bound.
+pub fn is_bound(rule: Rule) -> bool
+    ensures { λ r. ⌜ r ≡ isSome (boundIn rule) ⌝ }
+{
+    match rule {
+        Rule::Rows(_) => true,
+        Rule::Share(_) => true,
         Rule::Every {
             length: _,
             start: _,
-        } => 18,
-        Rule::Scenes(_) => 19,
+        } => false,
+        Rule::Scenes(_) => false,
     }
 }
 
-// Question 3, 18 or 19, by the query's rule.
-pub fn ask(query: RuledQuery) -> Asked
-    ensures { λ r. ⌜ askedCase r ≡ outcome (ruleQuestion query ∷ []) tt ⌝ }
+// The bound that a rule is.
+pub fn bound_of(rule: Rule) -> Bound
+    requires { ⌜ isSome (boundIn rule) ≡ true ⌝ }
+    ensures { λ r. ⌜ boundIn rule ≡ some r ⌝ }
 {
-    if is_known(query) {
-        return Asked::Passed;
+    match rule {
+        Rule::Rows(c) => Bound::Rows(c),
+        Rule::Share(p) => Bound::Share(p),
+        Rule::Every {
+            length: _,
+            start: _,
+        } => Bound::Rows(0),
+        Rule::Scenes(_) => Bound::Rows(0),
     }
-    no(question(query), 0)
 }

@@ -1,12 +1,14 @@
 -- What a rule that is known says of a query's windows. Assumes nothing.
 use Prim.Native.Nat.{ℕ, _≤_, _<_}
-use mathlib.Core.Bool.{true, _&&_}
+use mathlib.Core.Bool.{true, _&&_, false≢true}
+use mathlib.Core.List.{List, []}
 use mathlib.Core.Path.{_≡_, refl}
 use native.Mathlib.Omega.{arith}
 use lib.Dec.{leb}
 use borrow.Author.Tests.{ltb-true, leb-true}
-use Rattle.model.specs.Common.{every}
-use Rattle.model.specs.Windows.{beat, scene, beatCount, windowCount, windowAt}
+use Rattle.model.specs.Common.{every, isSome, listFrom, joined}
+use Rattle.model.specs.Spans.{Span, groupCount}
+use Rattle.model.specs.Windows.{boundIn, beat, scene, beatCount, windowCount, windowAt, windows, groupRows, spanRows}
 use Rattle.model.specs.Questions.{ask, sceneKnown, mostScenes, scenesKnown, ruleQuestion}
 use Rattle.model.specs.declared.Rule.{Rule}
 use Rattle.model.specs.declared.Rule.the-variants.{Rows, Share, Every, Scenes}
@@ -66,6 +68,17 @@ forward q known i lt = by (q .rule) refl
         rw (beat-at q length start e i)
         (beat-forward length start (some-frames q length start e known) i (rw (beat-count q length start e) at lt))
     by (Scenes count) e = rw (scene-at q count e i) (scene-forward q count e known i (rw (scene-count q count e) at lt))
+
+-- a bound has no windows, and so no rows by windows
+pub no-windows : (q : RuledQuery) → isSome (boundIn (q .rule)) ≡ true → (kind : ℕ) (rs : List (Span ℕ)) → spanRows kind rs (windows q) ≡ []
+unfolding windows windowCount boundIn isSome spanRows groupRows groupCount joined listFrom
+no-windows q bounded kind rs = by (q .rule) refl
+  where
+    by : (r : Rule) → q .rule ≡ r → spanRows kind rs (windows q) ≡ []
+    by (Rows c) e = rw e
+    by (Share p) e = rw e
+    by (Every length start) e = absurd (false≢true (rw e at bounded))
+    by (Scenes count) e = absurd (false≢true (rw e at bounded))
 
 -- the kind is no part of this
 pub known-by-rule : (q : RuledQuery) → Known q → Known (byRule (q .rule) (q .firsts) (q .lasts))

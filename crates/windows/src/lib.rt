@@ -9,6 +9,7 @@ use model::MOST_SCENES;
 use model::Row;
 use model::Rule;
 use model::RuledQuery;
+use rules::is_bound;
 ghost use mathlib.Core.Path.{_≡_};
 ghost use Prim.Native.Nat.{_<_, _≤_, min};
 ghost use Rattle.model.specs.Windows.{beat, beatCount, windowCount, windowAt, windows, spanRows};
@@ -126,7 +127,8 @@ fn next(query: RuledQuery, stop: u16, i: usize, n: usize) -> usize
 }
 
 // The rows of records by a query's windows, by group and then by window. A turn of the inner loop gives a row, or passes over all
-// windows up to the group's next event. Both loops stand in one function, so that the rows are put in their places and not copied.
+// windows up to the group's next event. Both loops stand in one function, so that the rows are put in their places and not copied. A
+// bound has no windows: it is asked for once, ahead of the loops, so that the compiler does not ask for it again at each window.
 pub fn rows<'a>(
     groups: &'a [u8; MOST_RECORDS],
     firsts: &'a [u16; MOST_RECORDS],
@@ -139,6 +141,13 @@ pub fn rows<'a>(
     requires { ⌜ Known query ⌝ }
     ensures { λ r. ⌜ Lists r (spanRows (query .kind) (spansIn (now (groups .entry)) (now (firsts .entry)) (now (lasts .entry)) (now (loads .entry)) count) (windows query)) ⌝ }
 {
+    let rule = query.rule;
+    if is_bound(rule) {
+        return Listing {
+            rows: no_rows(),
+            count: 0,
+        };
+    }
     let n = count_windows(query);
     let mut own_firsts = [0u16; MOST_RECORDS];
     let mut own_lasts = [0u16; MOST_RECORDS];

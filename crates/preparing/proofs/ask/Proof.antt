@@ -4,7 +4,7 @@ use mathlib.Core.Path.{sym, ap, _∙_}
 use Rattle.model.specs.Questions.{logQuestions}
 use Rattle.model.specs.Calls.{askedCase}
 use Rattle.theory.proofs.Refusals.{outcome-accepted, outcome-behind, refused-first}
-use Rattle.preparing.specs.Prepared.{earlyQuestions}
+use Rattle.preparing.specs.Prepared.{earlyQuestions, aheadOfRows}
 use Rattle.preparing.proofs.ask.Statement.{statement}
 use Rattle.preparing.proofs.ask.Tie as tie
 
@@ -21,21 +21,21 @@ enum-known-asked : tie.Need-enum-known-asked
 enum-known-asked c = search needs
 
 returns : tie.Need-returns
-unfolding askedCase
-returns c =
+unfolding askedCase aheadOfRows
+returns c question rule =
     let a = c .before .before .before .before .before .args in
-    let says = sym (c .before .before .before .ask-query .ensures) ∙ ap askedCase (c .before .enum-told .given .1) in
+    let says = sym (c .before .before .before .ask-query .ensures question rule) ∙ ap askedCase (c .before .enum-told .given .1) in
     c .ask .ensures
-    ∙ sym (outcome-behind (earlyQuestions (a .query) (a .room)) (logQuestions (a .log .now)) (tt {0})
+    ∙ sym (outcome-behind (earlyQuestions (a .kind) question (a .room)) (logQuestions (a .log .now)) (tt {0})
     (outcome-accepted _ (tt {0}) (tt {0}) says .0))
 
 returns-2 : tie.Need-returns-2
-unfolding askedCase
-returns-2 c =
+unfolding askedCase aheadOfRows
+returns-2 c question rule =
     let a = c .before .before .before .before .before .args in
     let g = c .before .asked .given in
-    let says = sym (c .before .before .before .ask-query .ensures) ∙ ap askedCase (g .1) in
-    sym (refused-first (earlyQuestions (a .query) (a .room)) (logQuestions (a .log .now)) (tt {0}) (tt {0}) _ _ says)
+    let says = sym (c .before .before .before .ask-query .ensures question rule) ∙ ap askedCase (g .1) in
+    sym (refused-first (earlyQuestions (a .kind) question (a .room)) (logQuestions (a .log .now)) (tt {0}) (tt {0}) _ _ says)
 
 pub ask-spec : {M : Type 1} → statement M
 ask-spec =

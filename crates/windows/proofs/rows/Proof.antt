@@ -19,7 +19,7 @@ use Rattle.tally.specs.declared.Own.{Own}
 use Rattle.tally.proofs.Stops.{stop-from}
 use Rattle.windows.specs.Listed.{Lists, Skips}
 use Rattle.windows.specs.declared.Listing.{Listing}
-use Rattle.windows.proofs.Rules.{forward, known-by-rule, window-by-rule}
+use Rattle.windows.proofs.Rules.{no-windows, forward, known-by-rule, window-by-rule}
 use Rattle.windows.proofs.Listings.{Made, made-none, made-next, made-all, made-past}
 use Rattle.windows.proofs.Meeting.{rowsFrom, rowsLeft, all-groups, no-groups, group-starts, group-ends, skip-on, row-left, some-left}
 use Rattle.windows.proofs.rows.Statement.{statement}
@@ -49,17 +49,21 @@ abbrev μ-loop : tie.MeasureT-loop
 abbrev records : tie.Start Inv-loop2 μ-loop2 Inv-loop μ-loop → List (Span ℕ)
 records s = spansIn (s .args .groups .now) (s .args .firsts .now) (s .args .lasts .now) (s .args .loads .now) (s .args .count)
 
+-- where the windows are counted, the rule is no bound
+abbrev start : tie.After-count-windows Inv-loop2 μ-loop2 Inv-loop μ-loop → tie.Start Inv-loop2 μ-loop2 Inv-loop μ-loop
+start m = m .before .before .before
+
 abbrev all : tie.After-count-windows Inv-loop2 μ-loop2 Inv-loop μ-loop → List (Span ℕ)
 all m =
-    let q = m .before .args .t6 in
-    spanRows (q .kind) (records (m .before)) (listFrom 0 (m .count-windows .result) (windowAt q))
+    let q = start m .args .t6 in
+    spanRows (q .kind) (records (start m)) (listFrom 0 (m .count-windows .result) (windowAt q))
 
 whole : (m : tie.After-count-windows Inv-loop2 μ-loop2 Inv-loop μ-loop) (l : Listing) → Lists l (all m)
-    → Lists l (spanRows (m .before .args .t6 .kind) (records (m .before)) (windows (m .before .args .t6)))
+    → Lists l (spanRows (start m .args .t6 .kind) (records (start m)) (windows (start m .args .t6)))
 unfolding windows
 whole m l lists =
-    let q = m .before .args .t6 in
-    subst (λ (n : ℕ). Lists l (spanRows (q .kind) (records (m .before)) (listFrom 0 n (windowAt q)))) (m .count-windows .ensures) lists
+    let q = start m .args .t6 in
+    subst (λ (n : ℕ). Lists l (spanRows (q .kind) (records (start m)) (listFrom 0 n (windowAt q)))) (m .count-windows .ensures) lists
 
 in-groups : (c : tie.In-loop Inv-loop2 μ-loop2 Inv-loop μ-loop) → c .before .loop .group < groupCount
 unfolding groupCount
@@ -83,47 +87,59 @@ seen v = v .before .before .before .before
 abbrev inner : tie.After-survey Inv-loop2 μ-loop2 Inv-loop μ-loop → tie.In-loop2 Inv-loop2 μ-loop2 Inv-loop μ-loop
 inner v = seen v .before .before .before .before
 
-count-windows-requires : tie.Need-count-windows-requires Inv-loop2 μ-loop2 Inv-loop μ-loop
-count-windows-requires c κs = c .pre .1
+is-bound-requires : tie.Need-is-bound-requires Inv-loop2 μ-loop2 Inv-loop μ-loop
+is-bound-requires c κs = search needs
 
 no-rows-requires : tie.Need-no-rows-requires Inv-loop2 μ-loop2 Inv-loop μ-loop
 no-rows-requires c κs = search needs
 
+returns : tie.Need-returns Inv-loop2 μ-loop2 Inv-loop μ-loop
+returns c =
+    let b = c .before .before in
+    rw (c .no-rows .ensures, no-windows (b .before .args .t6) (sym (b .is-bound .ensures) ∙ c .before .if1 .taken) (b .before .args .t6 .kind) (records (b .before)))
+    (made-all _ 0 _ (made-none _))
+
+count-windows-requires : tie.Need-count-windows-requires Inv-loop2 μ-loop2 Inv-loop μ-loop
+count-windows-requires c κs = c .before .before .pre .1
+
+no-rows-requires-2 : tie.Need-no-rows-requires-2 Inv-loop2 μ-loop2 Inv-loop μ-loop
+no-rows-requires-2 c κs = search needs
+
 loop-holds : tie.Need-loop-holds Inv-loop2 μ-loop2 Inv-loop μ-loop
 loop-holds c =
     let m = c .before in
-    let q = m .before .args .t6 in (
+    let q = start m .args .t6 in (
       omega arith,
       (refl, refl, refl),
-      subst (λ (rows : List Row). Made rows 0 (rowsFrom (q .kind) (records (m .before)) (windowAt q) (m .count-windows .result) 0) (all m))
-          (sym (c .no-rows .ensures))
-          (rw (all-groups (q .kind) (records (m .before)) (windowAt q) (m .count-windows .result)) (made-none (all m))),
+      subst (λ (rows : List Row). Made rows 0 (rowsFrom (q .kind) (records (start m)) (windowAt q) (m .count-windows .result) 0) (all m))
+          (sym (c .no-rows2 .ensures))
+          (rw (all-groups (q .kind) (records (start m)) (windowAt q) (m .count-windows .result)) (made-none (all m))),
     )
 
 select-requires : tie.Need-select-requires Inv-loop2 μ-loop2 Inv-loop μ-loop
 select-requires c κs =
-    let h = c .before .before .before .before in (h .before .before .before .pre .0, h .loop .inv .1)
+    let h = c .before .before .before .before in (start (h .before .before) .pre .0, h .loop .inv .1)
 
 loop2-holds : tie.Need-loop2-holds Inv-loop2 μ-loop2 Inv-loop μ-loop
 loop2-holds c =
     let h = turn c .before in
     let m = counted c in
-    let q = m .before .args .t6 in (
+    let q = start m .args .t6 in (
       omega arith,
       subst (λ (left : List (Span ℕ)). Made (h .loop .rows) (h .loop .made) left (all m))
-          (group-starts (q .kind) (records (m .before)) (windowAt q) (m .count-windows .result) (h .loop .group) (in-groups (turn c)))
+          (group-starts (q .kind) (records (start m)) (windowAt q) (m .count-windows .result) (h .loop .group) (in-groups (turn c)))
           (h .loop .inv .2),
     )
 
 -- the window and what is found of it, over the records of the group
 frames : (w : tie.After-window Inv-loop2 μ-loop2 Inv-loop μ-loop)
     → record { first = w .window .result .first; last = w .window .result .last }
-    ≡ windowAt (counted (w .before .before .before .before .before .before) .before .args .t6) (w .before .before .before .before .before .loop2 .i)
+    ≡ windowAt (start (counted (w .before .before .before .before .before .before)) .args .t6) (w .before .before .before .before .before .loop2 .i)
 frames w = w .window .ensures ∙ window-by-rule _ _
 
 survey : (v : tie.After-survey Inv-loop2 μ-loop2 Inv-loop μ-loop)
     → Survey (seen v .window .result .first) (seen v .window .result .last)
-    (onlyOf (turn (inner v .before .before) .before .loop .group) (records (counted (inner v .before .before) .before)))
+    (onlyOf (turn (inner v .before .before) .before .loop .group) (records (start (counted (inner v .before .before)))))
     (v .survey .result)
 survey v =
     subst (λ (own : List Own). Survey (seen v .window .result .first) (seen v .window .result .last) own (v .survey .result))
@@ -133,7 +149,7 @@ survey v =
 window-requires : tie.Need-window-requires Inv-loop2 μ-loop2 Inv-loop μ-loop
 window-requires c κs =
     let m = counted (c .before .before .before .before .before) in
-    (known-by-rule (m .before .args .t6) (m .before .pre .1), omega (arith, c .before .before .before .loop2-test .taken, m .count-windows .ensures))
+    (known-by-rule (start m .args .t6) (start m .pre .1), omega (arith, c .before .before .before .loop2-test .taken, m .count-windows .ensures))
 
 survey-requires : tie.Need-survey-requires Inv-loop2 μ-loop2 Inv-loop μ-loop
 survey-requires c κs = c .before .before .before .before .before .before .before .before .before .select .ensures .0 .0
@@ -141,14 +157,14 @@ survey-requires c κs = c .before .before .before .before .before .before .befor
 -- the last frame before the next event is no earlier than the window's first
 no-earlier : (v : tie.After-survey Inv-loop2 μ-loop2 Inv-loop μ-loop) → seen v .window .result .first ≤ v .survey .result .stop
 no-earlier v =
-    let own = onlyOf (turn (inner v .before .before) .before .loop .group) (records (counted (inner v .before .before) .before)) in
+    let own = onlyOf (turn (inner v .before .before) .before .loop .group) (records (start (counted (inner v .before .before)))) in
     omega (arith, survey v .stops, stop-from (seen v .window .result .first) own (omega (arith, seen v .window .ok)))
 
 next-requires : tie.Need-next-requires Inv-loop2 μ-loop2 Inv-loop μ-loop
 next-requires c κs =
     let v = c .before .before in
     let m = counted (inner v .before .before) in (
-      m .before .pre .1,
+      start m .pre .1,
       inner v .loop2-test .taken,
       m .count-windows .ensures,
       omega (arith, no-earlier v, ap (λ (w : Window). w .first) (frames (seen v))),
@@ -163,49 +179,49 @@ loop2-again c =
     let t = inner v in
     let h = turn (t .before .before) .before in
     let m = counted (t .before .before) in
-    let q = m .before .args .t6 in
+    let q = start m .args .t6 in
     let l = t .before .loop2 in
-    let own = onlyOf (h .loop .group) (records (m .before)) in
+    let own = onlyOf (h .loop .group) (records (start m)) in
     let unmet : length (loadsAt (windowAt q (l .i) .first) (windowAt q (l .i) .last) own) ≡ 0 =
-    rw (sym (frames (seen v))) (sym (survey v .counts) ∙ c .before .if1 .taken) in
+    rw (sym (frames (seen v))) (sym (survey v .counts) ∙ c .before .if2 .taken) in
     let stop : v .survey .result .stop ≡ stopAt (windowAt q (l .i) .first) own =
     survey v .stops ∙ ap (λ (w : Window). stopAt (w .first) own) (frames (seen v)) in
     let skips = subst (λ (x : ℕ). Skips (windowAt q) x (l .i) (m .count-windows .result) (c .next .result)) stop (c .next .ensures) in
     let in-windows : l .i < windowCount (q .rule) = omega (arith, t .loop2-test .taken, m .count-windows .ensures) in (
       skips .within,
       subst (λ (left : List (Span ℕ)). Made (l .rows) (l .made) left (all m))
-          (skip-on (q .kind) (records (m .before)) (windowAt q) (m .count-windows .result) (h .loop .group) (l .i) (c .next .result) (forward q (m .before .pre .1) (l .i) in-windows) unmet skips)
+          (skip-on (q .kind) (records (start m)) (windowAt q) (m .count-windows .result) (h .loop .group) (l .i) (c .next .result) (forward q (start m .pre .1) (l .i) in-windows) unmet skips)
           (l .inv .1),
     )
 
-returns : tie.Need-returns Inv-loop2 μ-loop2 Inv-loop μ-loop
-returns c =
+returns-2 : tie.Need-returns-2 Inv-loop2 μ-loop2 Inv-loop μ-loop
+returns-2 c =
     let v = c .before .before .before in
     let t = inner v in
     let h = turn (t .before .before) .before in
     let m = counted (t .before .before) in
-    let q = m .before .args .t6 in
+    let q = start m .args .t6 in
     let l = t .before .loop2 in
-    let (r, more) = some-left (q .kind) (records (m .before)) (windowAt q) (m .count-windows .result) (h .loop .group) (l .i) (t .loop2-test .taken) _ _ (frames (seen v))
-    (λ none-met. c .before .if1 .left (survey v .counts ∙ none-met)) in
+    let (r, more) = some-left (q .kind) (records (start m)) (windowAt q) (m .count-windows .result) (h .loop .group) (l .i) (t .loop2-test .taken) _ _ (frames (seen v))
+    (λ none-met. c .before .if2 .left (survey v .counts ∙ none-met)) in
     whole m _
     (made-past (l .rows) (l .made) (all m) r _
     (subst (λ (left : List (Span ℕ)). Made (l .rows) (l .made) left (all m)) more (l .inv .1))
-    (omega (arith, c .if2 .taken)))
+    (omega (arith, c .if3 .taken)))
 
 value-at-requires : tie.Need-value-at-requires Inv-loop2 μ-loop2 Inv-loop μ-loop
 value-at-requires c κs =
     let v = c .before .before .before .before .before .before in
-    (inner v .before .before .select .ensures .0 .0, (v .survey .ensures, λ none-met. c .before .before .before .before .if1 .left (v .survey .ensures .counts ∙ none-met)))
+    (inner v .before .before .select .ensures .0 .0, (v .survey .ensures, λ none-met. c .before .before .before .before .if2 .left (v .survey .ensures .counts ∙ none-met)))
 
 mul-rows : tie.Need-mul-rows Inv-loop2 μ-loop2 Inv-loop μ-loop
-mul-rows c = omega (arith, c .before .before .before .before .if2 .left)
+mul-rows c = omega (arith, c .before .before .before .before .if3 .left)
 
 array-set-from-rows : tie.Need-array-set-from-rows Inv-loop2 μ-loop2 Inv-loop μ-loop
-array-set-from-rows c = c .before .before .before .before .if2 .left
+array-set-from-rows c = c .before .before .before .before .if3 .left
 
 add-made : tie.Need-add-made Inv-loop2 μ-loop2 Inv-loop μ-loop
-add-made c = omega (arith, c .before .before .before .before .if2 .left)
+add-made c = omega (arith, c .before .before .before .before .if3 .left)
 
 -- the turn that gives a row
 abbrev giving : tie.After-value-at Inv-loop2 μ-loop2 Inv-loop μ-loop → tie.After-survey Inv-loop2 μ-loop2 Inv-loop μ-loop
@@ -225,7 +241,7 @@ loop2-again-2 c =
     let t = inner v in
     let h = turn (t .before .before) .before in
     let m = counted (t .before .before) in
-    let q = m .before .args .t6 in
+    let q = start m .args .t6 in
     let l = t .before .loop2 in
     let w = seen v .window .result in
     let found = ap (λ (own : List Own). aggregated (q .kind) (loadsAt (w .first) (w .last) own)) (sym (t .before .before .select .ensures .1))
@@ -234,9 +250,9 @@ loop2-again-2 c =
       omega (arith, t .loop2-test .taken),
       made-next (l .rows) (l .made) (all m) _ _
           (subst (λ (left : List (Span ℕ)). Made (l .rows) (l .made) left (all m))
-          (row-left (q .kind) (records (m .before)) (windowAt q) (m .count-windows .result) (h .loop .group) (l .i) (t .loop2-test .taken) (w .first) (w .last) (frames (seen v)) (c .value-at .result) found)
+          (row-left (q .kind) (records (start m)) (windowAt q) (m .count-windows .result) (h .loop .group) (l .i) (t .loop2-test .taken) (w .first) (w .last) (frames (seen v)) (c .value-at .result) found)
           (l .inv .1))
-          (c .before .before .before .before .if2 .left),
+          (c .before .before .before .before .if3 .left),
     )
 
 add-group : tie.Need-add-group Inv-loop2 μ-loop2 Inv-loop μ-loop
@@ -251,25 +267,25 @@ loop-again c =
     let v = c .before .before in
     let h = turn v .before in
     let m = counted v in
-    let q = m .before .args .t6 in
+    let q = start m .args .t6 in
     let l = c .before .loop2 in
     rw (add-one (h .loop .group)) (
       in-groups (turn v),
       v .select .ensures .0 .1,
       subst (λ (left : List (Span ℕ)). Made (l .rows) (l .made) left (all m))
-          (group-ends (q .kind) (records (m .before)) (windowAt q) (m .count-windows .result) (h .loop .group) (l .i) (c .loop2-test .left))
+          (group-ends (q .kind) (records (start m)) (windowAt q) (m .count-windows .result) (h .loop .group) (l .i) (c .loop2-test .left))
           (l .inv .1),
     )
 
-returns-2 : tie.Need-returns-2 Inv-loop2 μ-loop2 Inv-loop μ-loop
-returns-2 c =
+returns-3 : tie.Need-returns-3 Inv-loop2 μ-loop2 Inv-loop μ-loop
+returns-3 c =
     let h = c .before in
     let m = h .before .before in
-    let q = m .before .args .t6 in
+    let q = start m .args .t6 in
     whole m _
     (made-all (h .loop .rows) (h .loop .made) (all m)
     (subst (λ (left : List (Span ℕ)). Made (h .loop .rows) (h .loop .made) left (all m))
-    (no-groups (q .kind) (records (m .before)) (windowAt q) (m .count-windows .result) (h .loop .group) (at-end c))
+    (no-groups (q .kind) (records (start m)) (windowAt q) (m .count-windows .result) (h .loop .group) (at-end c))
     (h .loop .inv .2)))
 
 pub rows-spec : {M : Type 1} → statement M
@@ -280,8 +296,11 @@ rows-spec =
     μ-loop2
     Inv-loop
     μ-loop
-    count-windows-requires
+    is-bound-requires
     no-rows-requires
+    returns
+    count-windows-requires
+    no-rows-requires-2
     loop-holds
     select-requires
     loop2-holds
@@ -290,7 +309,7 @@ rows-spec =
     next-requires
     loop2-less
     loop2-again
-    returns
+    returns-2
     value-at-requires
     mul-rows
     array-set-from-rows
@@ -301,4 +320,4 @@ rows-spec =
     add-group
     loop-less
     loop-again
-    returns-2)
+    returns-3)

@@ -2,8 +2,8 @@
 use borrow.Author.Needs.{needs}
 use Rattle.model.specs.Common.{isSome}
 use Rattle.model.specs.Windows.{boundIn}
-use Rattle.preparing.proofs.is_bound.Statement.{statement}
-use Rattle.preparing.proofs.is_bound.Tie as tie
+use Rattle.rules.proofs.is_bound.Statement.{statement}
+use Rattle.rules.proofs.is_bound.Tie as tie
 
 enum-told : tie.Need-enum-told
 enum-told c = search needs

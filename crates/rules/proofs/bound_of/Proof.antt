@@ -4,8 +4,8 @@ use mathlib.Core.Bool.{false≢true}
 use mathlib.Core.Path.{sym}
 use Rattle.model.specs.Common.{isSome}
 use Rattle.model.specs.Windows.{boundIn}
-use Rattle.preparing.proofs.bound_of.Statement.{statement}
-use Rattle.preparing.proofs.bound_of.Tie as tie
+use Rattle.rules.proofs.bound_of.Statement.{statement}
+use Rattle.rules.proofs.bound_of.Tie as tie
 
 enum-known-rule : tie.Need-enum-known-rule
 enum-known-rule c = search needs

@@ -1,2 +1,0 @@
--- What the C calls answer beyond one call of the tool.
-pub mod Ruled
