@@ -213,19 +213,23 @@ pub record Demand2 : Type 0 where
 abbrev pub HalfAbove : ℕ → List (Span ℕ) → Type 0
 HalfAbove k b = (0 < (totals b) .frames) × (2 * (totals b) .sum ≡ (2 * k + 1) * (totals b) .frames)
 
--- a row now and the same row before: the same frames of the same group, with the value that it had or one more
-pub record Risen (row before : Span ℕ) : Type 0 where
+-- the row of a block now, and before: the same frames of the same group, with the value that it had or, at a half, one more
+pub record Risen (block : List (Span ℕ)) (row before : Span ℕ) : Type 0 where
   pub group : row .group ≡ before .group
   pub first : row .first ≡ before .first
   pub last : row .last ≡ before .last
-  pub value : (row .value ≡ before .value) ⊎ (row .value ≡ suc (before .value))
+  pub value : (row .value ≡ before .value) ⊎ ((row .value ≡ suc (before .value)) × HalfAbove (before .value) block)
 
--- row by row, and as many of them
-abbrev pub AllRisen : List (Span ℕ) → List (Span ℕ) → Type 0
-AllRisen [] [] = Unit {0}
-AllRisen [] (b ∷ bs) = ⊥
-AllRisen (r ∷ rs) [] = ⊥
-AllRisen (r ∷ rs) (b ∷ bs) = Risen r b × AllRisen rs bs
+-- block by block, each with its row now and its row before
+abbrev pub AllRisen : List (List (Span ℕ)) → List (Span ℕ) → List (Span ℕ) → Type 0
+AllRisen [] rows before = (rows ≡ []) × (before ≡ [])
+AllRisen (block ∷ blocks) [] before = ⊥
+AllRisen (block ∷ blocks) (r ∷ rs) [] = ⊥
+AllRisen (block ∷ blocks) (r ∷ rs) (b ∷ bs) = Risen block r b × AllRisen blocks rs bs
+
+-- the blocks of a reduction with these cuts, the first block first
+abbrev pub blocksOf : List (Span ℕ) → List ℕ → List (List (Span ℕ))
+blocksOf segs cuts = map (λ r. r .value) (rowsOf (λ b. b) (segmentAt segs) (length segs) cuts)
 
 pub record HalvesUp : Type 0 where
   -- at a half, for every kind but 3, the row value is the upper one of the two nearest whole numbers, and was the lower one
@@ -238,12 +242,11 @@ pub record HalvesUp : Type 0 where
   pub sameError : (kind : ℕ) (b : List (Span ℕ)) → blockError kind b ≡ lowerError kind b
   -- every query is refused as it was, or has the number of rows, the error and the cuts weighed that it had
   pub sameOutcome : (q : Query) (log : List ℕ) (room : ℕ) → queryOutcome q log room ≡ lowerOutcome q log room
-  -- the same cuts
+  -- the same cuts, and so rows of the same frames, none of which has fallen, or risen by more than 1 or but at a half
   pub sameCuts : (q : Query) (log : List ℕ) (room : ℕ) (counts : Counts) → queryOutcome q log room ≡ accepted counts
       → (cuts : List ℕ) × Cut (q .kind) (logSegments (q .kind) log) (answerOf q log) cuts
       × LowerCut (q .kind) (logSegments (q .kind) log) (lowerAnswer q log) cuts
-  -- and rows of the same frames, none of which has fallen or risen by more than 1
-  pub risen : (q : Query) (log : List ℕ) → AllRisen ((answerOf q log) .rows) ((lowerAnswer q log) .rows)
+      × AllRisen (blocksOf (logSegments (q .kind) log) cuts) ((answerOf q log) .rows) ((lowerAnswer q log) .rows)
 
 -- Demand 3.
 

@@ -43,7 +43,7 @@ use Rattle.theory.proofs.Merging.{merging}
 use Rattle.theory.proofs.Bounds.{sound-records, mean, logs-measured, reduction-error-le, most-error}
 use Rattle.theory.proofs.Blocks.{rows-length}
 use Rattle.theory.proofs.Stored.{InRange, rows-known, rows-sorted}
-use Rattle.theory.proofs.Halves.{at-half-of, same-elsewhere, same-error, lower-in-range, same-errors, same-reduction, answers-are, answers, same-outcome}
+use Rattle.theory.proofs.Halves.{at-half-of, same-elsewhere, same-error, lower-in-range, same-errors, same-reduction, risen-rows, answers-are, same-outcome}
 use Rattle.theory.proofs.Guarantee.{limitOf}
 use Rattle.theory.proofs.Answer.{cutsTo, answer-reduces, best-rows, count-le, too-few-rows, only-least, never-short}
 use Rattle.theory.proofs.Empty.{nothing-fits, empty-log}
@@ -258,8 +258,12 @@ halves-up =
       sameCuts = λ q log room counts ok.
           let (fits, order, enough, same) = accepted-query q log room counts ok in
           let found = answered q log enough in
-          (found .cuts, found .cut, found .lowerCut);
-      risen = λ q log. answers q log .1;
+          let segs : List (Span ℕ) = logSegments (q .kind) log in (
+            found .cuts,
+            found .cut,
+            found .lowerCut,
+            rw (found .cut .rows, found .lowerCut .rows) (risen-rows (q .kind) segs (length segs) (found .cuts)),
+          );
     }
 
 -- Demand 3

@@ -1,7 +1,7 @@
 -- Halves go up: against the tool that held the lower whole number at a half, row values rise by 1 at a half and nowhere else, and every
 -- error, and with that every choice made by errors, is what it was. Assumes nothing.
 use Prim.Native.Nat.{ℕ, suc, _+_, _*_, _%_, _≤_, _<_}
-use mathlib.Core.List.{List, [], _∷_, _++_}
+use mathlib.Core.List.{List, [], _∷_, _++_, map, map-append}
 use mathlib.Core.Logic.{_⊎_, inl, inr, ⊎-elim}
 use mathlib.Core.Option.{Option, none, some}
 use mathlib.Core.Path.{_≡_, refl, sym, ap, _∙_}
@@ -32,7 +32,7 @@ use Rattle.theory.proofs.Answer.{reduced-to}
 -- ---- the two nearest whole numbers
 
 module _ (sum frames : ℕ) (some-frames : 0 < frames) where
-  -- the lower one at a half: less than a half above the mean
+  -- the lower one at a half: at most a half below the mean, and less than a half above it
   lower-low : 2 * sum ≤ (2 * lowerNearest sum frames + 1) * frames
   unfolding lowerNearest
   lower-low =
@@ -63,13 +63,6 @@ module _ (sum frames : ℕ) (some-frames : 0 < frames) where
   lower-near : Near sum frames down
   lower-near = record { low = lower-low; high = omega (arith, lower-high) }
 
-  -- the upper one is the lower one or one more
-  up-by-one : (down ≤ up) × (up ≤ suc down)
-  up-by-one = (
-    not-above down up (omega (arith, lower-high, nearest-low sum frames some-frames)),
-    not-above up (suc down) (omega (arith, nearest-high sum frames some-frames, lower-low)),
-  )
-
   -- half way between k and k + 1 they are these two
   at-half : (k : ℕ) → 2 * sum ≡ (2 * k + 1) * frames → (up ≡ suc k) × (down ≡ k)
   at-half k half = (
@@ -78,20 +71,22 @@ module _ (sum frames : ℕ) (some-frames : 0 < frames) where
     le-antisymm (not-above down k (omega (arith, lower-high))) (not-above k down (omega (arith, lower-low))),
   )
 
-  -- and elsewhere the same one
-  no-half : ((k : ℕ) → 2 * sum ≡ (2 * k + 1) * frames → ⊥) → up ≡ down
-  no-half never =
-      let low = lower-low in
-      let other = never down in
-      let strict : 2 * sum < (2 * down + 1) * frames =
-      elim (ℕ-discrete (2 * sum) ((2 * down + 1) * frames)) [ yes h ↦ absurd (other h) | no h ↦ omega arith ] in
-      le-antisymm (not-above up down (omega (arith, nearest-high sum frames some-frames))) (up-by-one .0)
+  -- so the upper one is the lower one or, at a half, one more
+  rises : (up ≡ down) ⊎ ((up ≡ suc down) × (2 * sum ≡ (2 * down + 1) * frames))
+  rises =
+      elim (ℕ-discrete (2 * sum) ((2 * down + 1) * frames)) [
+        | yes half ↦ inr (at-half down half .0, half)
+        | no other ↦
+            (let low = lower-low in
+            inl (le-antisymm (not-above up down (omega (arith, nearest-high sum frames some-frames)))
+            (not-above down up (omega (arith, lower-high, nearest-low sum frames some-frames)))))
+      ]
 
 -- ---- a block's row value and error
 
 module _ (kind : ℕ) (b : List (Span ℕ)) where
   -- for kind 3 and without frames the row value is what it was; else the two are the nearest whole numbers to the mean
-  pub values : (P : ℕ → ℕ → Type 0) → ((kind ≡ greatestKind) ⊎ ((totals b) .frames ≡ 0) → (n : ℕ) → P n n)
+  values : (P : ℕ → ℕ → Type 0) → ((kind ≡ greatestKind) ⊎ ((totals b) .frames ≡ 0) → (n : ℕ) → P n n)
       → ((kind ≡ greatestKind → ⊥) → 0 < (totals b) .frames
       → P (nearest ((totals b) .sum) ((totals b) .frames)) (lowerNearest ((totals b) .sum) ((totals b) .frames)))
       → P (rowValue kind b) (lowerValue kind b)
@@ -113,17 +108,17 @@ module _ (kind : ℕ) (b : List (Span ℕ)) where
       (λ c n. absurd (⊎-elim other (λ (none-here : (totals b) .frames ≡ 0). absurd (omega arith)) c))
       (λ o f. at-half ((totals b) .sum) ((totals b) .frames) f k half)
 
+  -- a row value is what it was or, at a half and for every kind but 3, one more
+  pub risen-value : (rowValue kind b ≡ lowerValue kind b)
+      ⊎ ((rowValue kind b ≡ suc (lowerValue kind b)) × (kind ≡ greatestKind → ⊥) × HalfAbove (lowerValue kind b) b)
+  risen-value =
+      values (λ now before. (now ≡ before) ⊎ ((now ≡ suc before) × (kind ≡ greatestKind → ⊥) × HalfAbove before b)) (λ c n. inl refl)
+      (λ other some-frames.
+      ⊎-elim inl (λ (one, half). inr (one, other, (some-frames, half))) (rises ((totals b) .sum) ((totals b) .frames) some-frames))
+
   pub same-elsewhere : (kind ≡ greatestKind) ⊎ ((k : ℕ) → HalfAbove k b → ⊥) → rowValue kind b ≡ lowerValue kind b
   same-elsewhere c =
-      values _≡_ (λ c n. refl)
-      (λ other some-frames.
-      ⊎-elim (λ is. absurd (other is)) (λ never. no-half ((totals b) .sum) ((totals b) .frames) some-frames (λ k half. never k (some-frames, half))) c)
-
-  -- a row value is what it was or one more
-  pub risen-value : (lowerValue kind b ≤ rowValue kind b) × (rowValue kind b ≤ suc (lowerValue kind b))
-  risen-value =
-      values (λ now before. (before ≤ now) × (now ≤ suc before)) (λ c n. (omega arith, omega arith))
-      (λ other some-frames. up-by-one ((totals b) .sum) ((totals b) .frames) some-frames)
+      ⊎-elim (λ same. same) (λ (one, other, half). absurd (⊎-elim other (λ never. never (lowerValue kind b) half) c)) risen-value
 
   -- two numbers with the least error have the same
   pub same-error : blockError kind b ≡ lowerError kind b
@@ -137,7 +132,9 @@ module _ (kind : ℕ) (b : List (Span ℕ)) where
 
 -- row values of before are in range, as those of now are
 pub lower-in-range : (kind : ℕ) → InRange (lowerValue kind)
-lower-in-range kind b small = omega (arith, risen-value kind b .0, row-le kind mostValue b small)
+lower-in-range kind b small =
+    let le = row-le kind mostValue b small in
+    ⊎-elim (λ (same : rowValue kind b ≡ lowerValue kind b). omega arith) (λ up. omega (arith, up .0)) (risen-value kind b)
 
 -- ---- answers
 
@@ -175,30 +172,32 @@ module _ (kind : ℕ) (bound : Bound) (segs : List (Span ℕ)) where
   unfolding lowerReduced
   both-to k h = (reduced-to kind segs bound k h, rw (sym same-count ∙ h, lowerReduced))
 
--- rows by the same cuts have risen, if at all
-pub risen-rows : (kind : ℕ) (seg : ℕ → Span ℕ) (i : ℕ) (cuts : List ℕ)
-    → AllRisen (rowsOf (rowValue kind) seg i cuts) (rowsOf (lowerValue kind) seg i cuts)
+-- the rows of the same blocks have risen, if at all
+pub risen-rows : (kind : ℕ) (segs : List (Span ℕ)) (i : ℕ) (cuts : List ℕ)
+    → AllRisen (map (λ r. r .value) (rowsOf (λ b. b) (segmentAt segs) i cuts)) (rowsOf (rowValue kind) (segmentAt segs) i cuts)
+    (rowsOf (lowerValue kind) (segmentAt segs) i cuts)
 unfolding rowsOf rowOf
-risen-rows kind seg i [] = tt
-risen-rows kind seg i (j ∷ js) = 
-    risen-append (rowsOf (rowValue kind) seg j js) (rowsOf (lowerValue kind) seg j js) (risen-rows kind seg j js) one
+risen-rows kind segs i [] = (refl, refl)
+risen-rows kind segs i (j ∷ js) =
+    rw (map-append (λ (r : Span (List (Span ℕ))). r .value) (rowsOf (λ b. b) (segmentAt segs) j js) (rowOf (λ b. b) (segmentAt segs) j i ∷ []))
+    (risen-append (map (λ r. r .value) (rowsOf (λ b. b) (segmentAt segs) j js)) (rowsOf (rowValue kind) (segmentAt segs) j js)
+    (rowsOf (lowerValue kind) (segmentAt segs) j js) (risen-rows kind segs j js) one)
   where
-    risen-append : (rs bs : List (Span ℕ)) → AllRisen rs bs → {r b : Span ℕ} → Risen r b → AllRisen (rs ++ (r ∷ [])) (bs ++ (b ∷ []))
-    risen-append [] [] all last = (last, tt)
-    risen-append [] (b ∷ bs) all last = absurd all
-    risen-append (r ∷ rs) [] all last = absurd all
-    risen-append (r ∷ rs) (b ∷ bs) (first, rest) last = (first, risen-append rs bs rest last)
+    risen-append : (blocks : List (List (Span ℕ))) (rs bs : List (Span ℕ)) → AllRisen blocks rs bs
+        → {block : List (Span ℕ)} {r b : Span ℕ} → Risen block r b
+        → AllRisen (blocks ++ (block ∷ [])) (rs ++ (r ∷ [])) (bs ++ (b ∷ []))
+    risen-append [] rs bs (no-rows, none-before) last = rw (no-rows, none-before) (last, (refl, refl))
+    risen-append (block ∷ blocks) [] bs all last = absurd all
+    risen-append (block ∷ blocks) (r ∷ rs) [] all last = absurd all
+    risen-append (block ∷ blocks) (r ∷ rs) (b ∷ bs) (first, rest) last = (first, risen-append blocks rs bs rest last)
 
-    one : Risen (rowOf (rowValue kind) seg j i) (rowOf (lowerValue kind) seg j i)
+    one : Risen (block (segmentAt segs) j i) (rowOf (rowValue kind) (segmentAt segs) j i) (rowOf (lowerValue kind) (segmentAt segs) j i)
     one =
-        let (least, most) = risen-value kind (block seg j i) in
         record {
           group = refl;
           first = refl;
           last = refl;
-          value =
-              elim (decLe (rowValue kind (block seg j i)) (lowerValue kind (block seg j i)))
-              [ yes h ↦ inl (omega arith) | no h ↦ inr (omega arith) ];
+          value = ⊎-elim inl (λ (more, other, half). inr (more, half)) (risen-value kind (block (segmentAt segs) j i));
         }
 
 module _ (q : Query) (log : List ℕ) where
@@ -210,23 +209,16 @@ module _ (q : Query) (log : List ℕ) where
   unfolding answerOf lowerAnswer
   answers-are k h = let both = both-to (q .kind) (q .bound) segs k h in (rw (both .0), rw (both .1))
 
-  -- the answer to a query: the same counts, and rows that have risen, if at all
-  pub answers : (countsOf (answerOf q log) ≡ countsOf (lowerAnswer q log)) × AllRisen ((answerOf q log) .rows) ((lowerAnswer q log) .rows)
-  unfolding answerOf lowerAnswer reducedTo
-  answers = by (countFor (q .kind) (q .bound) segs) refl
+  -- the answer to a query has the same counts
+  same-counts : countsOf (answerOf q log) ≡ countsOf (lowerAnswer q log)
+  unfolding answerOf lowerAnswer
+  same-counts = by (countFor (q .kind) (q .bound) segs) refl
     where
-      by : (o : Option ℕ) → countFor (q .kind) (q .bound) segs ≡ o
-          → (countsOf (answerOf q log) ≡ countsOf (lowerAnswer q log)) × AllRisen ((answerOf q log) .rows) ((lowerAnswer q log) .rows)
-      by none h = let both = both-none (q .kind) (q .bound) segs h in rw (both .0, both .1) (refl, tt)
-      by (some k) h =
-          let are = answers-are k h in
-          let same = same-reduction (q .kind) (q .bound) segs k in
-          rw (are .0, are .1) (
-            same .1,
-            rw (same .0) (risen-rows (q .kind) (segmentAt segs) (length segs) (cutsOf (errorOf (q .kind) segs) (gapBelow segs) k (length segs))),
-          )
+      by : (o : Option ℕ) → countFor (q .kind) (q .bound) segs ≡ o → countsOf (answerOf q log) ≡ countsOf (lowerAnswer q log)
+      by none h = let both = both-none (q .kind) (q .bound) segs h in rw (both .0, both .1)
+      by (some k) h = let are = answers-are k h in rw (are .0, are .1) (same-reduction (q .kind) (q .bound) segs k .1)
 
   -- and the same outcome
   pub same-outcome : (room : ℕ) → queryOutcome q log room ≡ lowerOutcome q log room
   unfolding queryOutcome queryQuestions enoughRows logSegments lowerOutcome
-  same-outcome room = rw (same-count (q .kind) (q .bound) segs, answers .0)
+  same-outcome room = rw (same-count (q .kind) (q .bound) segs, same-counts)

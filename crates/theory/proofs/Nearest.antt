@@ -72,7 +72,7 @@ pub record Near (sum frames n : ℕ) : Type 0 where
   pub low : 2 * sum ≤ (2 * n + 1) * frames
   pub high : 2 * (n * frames) ≤ 2 * sum + frames
 
--- the upper one at a half: less than a half below the mean
+-- the upper one at a half: less than a half below the mean, and at most a half above it
 pub nearest-low : (sum frames : ℕ) → 0 < frames → 2 * sum < (2 * nearest sum frames + 1) * frames
 unfolding nearest
 nearest-low sum zero pos-frames = absurd (omega arith)

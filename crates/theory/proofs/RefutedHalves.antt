@@ -114,24 +114,27 @@ refused-now number index e = accepted≢refused (says-now e)
 abbrev one-row : ℕ → List (Span ℕ)
 one-row value = span 0 0 1 value ∷ []
 
--- fallen, risen by 2 (value), of another frame (last), of another group (group)
-pub fallen : AllRisen (one-row 0) (one-row 1) → ⊥
-fallen all = ⊎-elim (λ (e : 0 ≡ 1). omega arith) (λ (e : 0 ≡ 2). omega arith) (all .0 .value)
+-- fallen, risen by 2, risen at no half (value), of another frame (last), of another group (group)
+pub fallen : AllRisen (loads ∷ []) (one-row 0) (one-row 1) → ⊥
+fallen all = ⊎-elim (λ (e : 0 ≡ 1). omega arith) (λ up. omega (arith, up .0)) (all .0 .value)
 
-pub risen-by-two : AllRisen (one-row 2) (one-row 0) → ⊥
-risen-by-two all = ⊎-elim (λ (e : 2 ≡ 0). omega arith) (λ (e : 2 ≡ 1). omega arith) (all .0 .value)
+pub risen-by-two : AllRisen (loads ∷ []) (one-row 2) (one-row 0) → ⊥
+risen-by-two all = ⊎-elim (λ (e : 2 ≡ 0). omega arith) (λ up. omega (arith, up .0)) (all .0 .value)
 
-pub a-frame-more : AllRisen (span 0 0 2 1 ∷ []) (one-row 0) → ⊥
+pub risen-at-a-third : AllRisen (three ∷ []) (span 0 0 2 1 ∷ []) (span 0 0 2 0 ∷ []) → ⊥
+risen-at-a-third all = ⊎-elim (λ (e : 1 ≡ 0). omega arith) (λ up. no-half 0 (up .1)) (all .0 .value)
+
+pub a-frame-more : AllRisen (loads ∷ []) (span 0 0 2 1 ∷ []) (one-row 0) → ⊥
 a-frame-more all = omega (arith, all .0 .last)
 
-pub another-group : AllRisen (span 1 0 1 1 ∷ []) (one-row 0) → ⊥
+pub another-group : AllRisen (loads ∷ []) (span 1 0 1 1 ∷ []) (one-row 0) → ⊥
 another-group all = omega (arith, all .0 .group)
 
 -- a row more, and one fewer
-pub a-row-more : AllRisen (span 0 0 0 0 ∷ span 0 1 1 1 ∷ []) (one-row 0) → ⊥
-a-row-more all = all .1
+pub a-row-more : AllRisen (loads ∷ []) (span 0 0 1 1 ∷ span 0 2 2 1 ∷ []) (one-row 0) → ⊥
+a-row-more all = omega (arith, ap (length {A = Span ℕ}) (all .1 .0))
 
-pub a-row-fewer : AllRisen [] (one-row 0) → ⊥
+pub a-row-fewer : AllRisen (loads ∷ []) [] (one-row 0) → ⊥
 a-row-fewer all = all
 
 -- two rows by the cuts of one (sameCuts)
