@@ -2,14 +2,17 @@
  *
  * A log is 0 to 128 records of 9 bytes. A query writes few rows into a slot of 768 bytes, which the
  * other calls read. By a bound it finds the log's constant segments and merges them; by windows,
- * beats or scenes, it gives each group a row for each window that one of its records meets.
+ * beats or scenes, it gives each group a row for each window that one of its records meets. Records
+ * with the same nine bytes are twins; a log that has some is refused, and pacer_without_twins keeps
+ * the first of them.
  *
  * Every call asks its questions in the order given at the call. The answer's field `question` is
  * 0 if all got 'yes'. Otherwise it is the number of the first question that got 'no', `index` is
- * the index from 0 of the record or row concerned for questions 6 to 9 and 14 to 16 (0 for the
+ * the index from 0 of the record or row concerned for questions 6 to 9, 14 to 16 and 21 (0 for the
  * others), and nothing that was lent is changed. The questions are:
  *
- *    1  Is the lent buffer or list long enough (slot 768, segments 255, rows 64, record 9)?
+ *    1  Is the lent buffer or list long enough (slot 768, segments 255, rows 64, record 9, and for a
+ *       log without its twins as long as the log)?
  *    2  Is the kind 0 to 4?
  *    3  Is the row limit at most 64, or the share at most 1,000?
  *    4  Is the log's length a multiple of 9?
@@ -30,8 +33,9 @@
  *   19  Are there 1 to 16 scenes, as many firsts as lasts, each first at most its last, and each
  *       scene wholly after the one before?
  *   20  Are there at most 64 rows?
+ *   21  Does no earlier record have the same nine bytes?
  *
- * The questions of one record or row come before the next one's.
+ * The questions of one record or row come before the next one's, 21 of a record after its 9.
  *
  * A pointer must point to as many bytes or places as the length beside it says; with the length
  * 0 it is not read, but it must not be null. A buffer that a call may write must not overlap
@@ -45,7 +49,7 @@
 #include <stdint.h>
 
 /* The version of the library that this header describes. */
-#define PACER_VERSION "0.12.0"
+#define PACER_VERSION "0.13.0"
 
 #ifdef __cplusplus
 extern "C" {
@@ -97,6 +101,12 @@ enum {
 struct pacer_record_answer {
     uint8_t question;
     size_t index;
+};
+
+struct pacer_log_answer {
+    uint8_t question;
+    size_t index;
+    size_t length;      /* bytes written; 0 in a refusal */
 };
 
 struct pacer_segments_answer {
@@ -166,10 +176,22 @@ struct pacer_row {
 struct pacer_record_answer pacer_write_record(uint8_t group, uint16_t first, uint16_t last,
                                               uint16_t load, uint8_t *buffer, size_t length);
 
+/* Writes a log without its twins: the first of equal records and the others, in their order. It is
+ * for logs on file: a logger restarted in a scene writes its last record twice, so that the sum
+ * doubles, and the other calls refuse such a log by question 21.
+ * Asks 1 (a buffer at least as long as the log), 4, 5, then 6 to 9 for record after record, not 21.
+ * Accepted: the first `length` bytes of the buffer are the records kept, the others keep their
+ * content. A log that has no twins is copied whole.
+ * Refused: the buffer is unchanged; length is 0.
+ * `log` and `buffer` must not overlap.
+ */
+struct pacer_log_answer pacer_without_twins(const uint8_t *log, size_t log_length,
+                                            uint8_t *buffer, size_t buffer_length);
+
 /* Reduces a log to the rows that a query asks for and writes them into a slot.
  * `rule` says whether `bound` is a row limit (PACER_ROWS) or a share (PACER_SHARE); any other
  * rule is question 3's 'no'.
- * Asks 1 (768 bytes of slot), 2, 3, 4, 5, then 6 to 9 for record after record, then 10.
+ * Asks 1 (768 bytes of slot), 2, 3, 4, 5, then 6 to 9 and 21 for record after record, then 10.
  * Accepted: the first 768 bytes of the slot are header, rows and zeros; the others keep their
  * content. The answer gives the count of rows, their error and the number of cuts weighed.
  * A row's value is the whole number nearest to the mean of the values in it, the upper one at a
@@ -184,7 +206,7 @@ struct pacer_query_answer pacer_query(uint8_t kind, uint8_t rule, uint16_t bound
 
 /* Writes a log's rows by beats into a slot: those of the windows every `length` frames from frame
  * `start` on, the last one cut off at frame 65,535. Frames before `start` lie in no window.
- * Asks 1 (768 bytes of slot), 2, 18, 4, 5, then 6 to 9 for record after record, then 20.
+ * Asks 1 (768 bytes of slot), 2, 18, 4, 5, then 6 to 9 and 21 for record after record, then 20.
  * Accepted: the first 768 bytes of the slot are header (50 53), rows and zeros; the others keep
  * their content. The answer gives the count of rows; error and weighed are 0.
  * The rows stand by group and then by window. A row has its window's own first and last frame, and
@@ -199,8 +221,8 @@ struct pacer_query_answer pacer_query_beats(uint8_t kind, uint16_t length, uint1
 
 /* Writes a log's rows by scenes into a slot: those of the windows from frame `firsts[i]` to frame
  * `lasts[i]`, both included. Scenes may touch, as 0 to 3 and 4 to 9 do.
- * Asks 1 (768 bytes of slot), 2, 19, 4, 5, then 6 to 9 for record after record, then 20. Lists of
- * unequal length are 19's 'no'.
+ * Asks 1 (768 bytes of slot), 2, 19, 4, 5, then 6 to 9 and 21 for record after record, then 20. Lists
+ * of unequal length are 19's 'no'.
  * All else is as with pacer_query_beats.
  * `slot` must not overlap `firsts`, `lasts` or `log`.
  */
@@ -211,7 +233,7 @@ struct pacer_query_answer pacer_query_scenes(uint8_t kind,
                                              uint8_t *slot, size_t slot_length);
 
 /* Lists a log's segments, by group and then by first frame.
- * Asks 1 (255 places), 2, 4, 5, then 6 to 9 for record after record.
+ * Asks 1 (255 places), 2, 4, 5, then 6 to 9 and 21 for record after record.
  * Accepted: the first `count` places hold the segments, the others keep their content.
  * Refused: the list is unchanged; count is 0.
  * `log` and `list` must not overlap.

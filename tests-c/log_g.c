@@ -1,5 +1,5 @@
-/* Log G through the C interface: write_record, segments, query, query_beats, query_scenes, read,
- * read_rows, row_at and lookup.
+/* Log G through the C interface: write_record, without_twins, segments, query, query_beats,
+ * query_scenes, read, read_rows, row_at and lookup.
  *
  * Every answer is checked against the numbers that the paper prints for log G, or against what its
  * rules give for it by hand, and every byte lent against the paper's layout. Prints one line,
@@ -54,6 +54,15 @@ static void answer_at(int line, struct pacer_query_answer found, struct pacer_qu
     same_at(line, "weighed", found.weighed, expected.weighed);
 }
 #define ANSWER(found, ...) answer_at(__LINE__, found, (struct pacer_query_answer){__VA_ARGS__})
+
+/* Compares the answer of without_twins, field by field. */
+static void kept_at(int line, struct pacer_log_answer found, struct pacer_log_answer expected)
+{
+    same_at(line, "question", found.question, expected.question);
+    same_at(line, "index", found.index, expected.index);
+    same_at(line, "length", found.length, expected.length);
+}
+#define KEPT(found, ...) kept_at(__LINE__, found, (struct pacer_log_answer){__VA_ARGS__})
 
 /* Log G: group, first, last, load. */
 static const uint16_t log_g[5][4] = {
@@ -487,6 +496,206 @@ static void test_scenes(const uint8_t *log)
     BYTES(slot, before, sizeof slot);
 }
 
+/* Every call that asks a log all its questions: each refuses it by the same one and changes nothing, or
+ * all accept it.
+ */
+static void every_call(int line, const uint8_t *log, size_t length, uint8_t question, size_t index)
+{
+    static uint8_t slot[PACER_SLOT_BYTES], before[PACER_SLOT_BYTES];
+    static struct pacer_segment list[PACER_SEGMENT_PLACES];
+    static const uint16_t first[] = {0}, last[] = {65535};
+
+    fill(before, sizeof before);
+    for (int call = 0; call < 4; call++) {
+        struct pacer_query_answer a;
+        memcpy(slot, before, sizeof slot);
+        if (call == 0)
+            a = pacer_query(PACER_SUM, PACER_ROWS, 64, log, length, slot, sizeof slot);
+        else if (call == 1)
+            a = pacer_query(PACER_SUM, PACER_SHARE, 1000, log, length, slot, sizeof slot);
+        else if (call == 2)
+            a = pacer_query_beats(PACER_SUM, 65535, 0, log, length, slot, sizeof slot);
+        else
+            a = pacer_query_scenes(PACER_SUM, first, 1, last, 1, log, length, slot, sizeof slot);
+        same_at(line, "question of a query", a.question, question);
+        same_at(line, "index of a query", a.index, index);
+        if (question != 0) {
+            answer_at(line, a, (struct pacer_query_answer){question, index, 0, 0, 0});
+            bytes_at(line, "slot", slot, before, sizeof slot);
+        }
+    }
+
+    for (size_t i = 0; i < PACER_SEGMENT_PLACES; i++)
+        list[i] = (struct pacer_segment){9, 10, 11, 12};
+    const struct pacer_segments_answer a =
+        pacer_segments(log, length, PACER_SUM, list, PACER_SEGMENT_PLACES);
+    same_at(line, "question of segments", a.question, question);
+    same_at(line, "index of segments", a.index, index);
+    if (question != 0) {
+        same_at(line, "count", a.count, 0);
+        for (size_t i = 0; i < PACER_SEGMENT_PLACES; i++)
+            same_at(line, "group", list[i].group, 9);
+    }
+}
+#define EVERY_CALL(log, length, question, index) every_call(__LINE__, log, length, question, index)
+
+/* Question 21: the later one of two records with the same nine bytes. */
+static void test_twins(const uint8_t *log)
+{
+    static uint8_t slot[PACER_SLOT_BYTES], many[129 * 9];
+    uint8_t twins[54];
+
+    /* G with its last record twice, as a restarted logger writes it, and with its first one twice. */
+    memcpy(twins, log, 45);
+    memcpy(twins + 45, log + 36, 9);
+    EVERY_CALL(twins, 45, 0, 0);
+    EVERY_CALL(twins, 54, 21, 5);
+    memcpy(twins + 45, log, 9);
+    EVERY_CALL(twins, 54, 21, 5);
+    memcpy(twins + 9, log, 9);
+    EVERY_CALL(twins, 54, 21, 1);
+
+    /* A wrong record before the later twin comes first, one behind it does not; a wrong record's twin
+     * is not reached.
+     */
+    memcpy(twins, log, 45);
+    memcpy(twins + 27, log + 9, 9);
+    memcpy(twins + 45, log + 36, 9);
+    EVERY_CALL(twins, 54, 21, 3);
+    twins[36] = 0;
+    EVERY_CALL(twins, 54, 21, 3);
+    twins[18 + 2] = 8;
+    EVERY_CALL(twins, 54, 7, 2);
+    memcpy(twins + 27, twins + 18, 9);
+    EVERY_CALL(twins, 54, 7, 2);
+
+    /* What comes before the records, and 10 and 20, which come after them. */
+    memcpy(twins, log, 45);
+    memcpy(twins + 45, log + 36, 9);
+    SAME(pacer_query(0, PACER_ROWS, 64, twins, 54, slot, 767).question, 1);
+    SAME(pacer_query(5, PACER_ROWS, 64, twins, 54, slot, sizeof slot).question, 2);
+    SAME(pacer_query(0, PACER_ROWS, 65, twins, 54, slot, sizeof slot).question, 3);
+    SAME(pacer_query(0, PACER_ROWS, 64, twins, 53, slot, sizeof slot).question, 4);
+    ANSWER(pacer_query(0, PACER_ROWS, 0, twins, 54, slot, sizeof slot), 21, 5, 0, 0, 0);
+    SAME(pacer_query_beats(0, 0, 0, twins, 54, slot, sizeof slot).question, 18);
+    SAME(pacer_write_record(5, 0, 64, 9, twins, 9).question, 0);
+    memcpy(twins + 9, twins, 9);
+    ANSWER(pacer_query_beats(0, 1, 0, twins, 9, slot, sizeof slot), 20, 0, 0, 0, 0);
+    ANSWER(pacer_query_beats(0, 1, 0, twins, 18, slot, sizeof slot), 21, 1, 0, 0, 0);
+
+    /* Records that differ in one byte alone are no twins, whichever byte behind the mark it is. */
+    SAME(pacer_write_record(2, 0x0102, 0x0304, 0x0104, many, 9).question, 0);
+    for (size_t byte = 2; byte < 9; byte++) {
+        uint8_t *other = many + 9 * (byte - 1);
+        memcpy(other, many, 9);
+        other[byte] ^= 1;
+        EVERY_CALL(many, 9 * byte, 0, 0);
+        memcpy(other + 9, other, 9);
+        EVERY_CALL(many, 9 * byte + 9, 21, byte);
+    }
+
+    /* 128 records; the last one is a twin of each of the others in turn. With 129 the count is asked
+     * first.
+     */
+    for (uint16_t i = 0; i < 128; i++)
+        SAME(pacer_write_record(7, i, (uint16_t)(1000 - i), 1000, many + 9 * i, 9).question, 0);
+    SAME(pacer_segments(many, 128 * 9, PACER_SUM, (struct pacer_segment[255]){{0}}, 255).count, 255);
+    for (size_t i = 0; i < 127; i++) {
+        memcpy(many + 127 * 9, many + i * 9, 9);
+        const struct pacer_query_answer a =
+            pacer_query(PACER_SUM, PACER_ROWS, 1, many, 128 * 9, slot, sizeof slot);
+        ANSWER(a, 21, 127, 0, 0, 0);
+    }
+    memcpy(many + 128 * 9, many, 9);
+    EVERY_CALL(many, sizeof many, 5, 0);
+}
+
+/* The call for logs on file. */
+static void test_without_twins(const uint8_t *log)
+{
+    static uint8_t slot[PACER_SLOT_BYTES], buffer[128 * 9 + 20], before[128 * 9 + 20];
+    static uint8_t many[129 * 9];
+    uint8_t twins[54];
+
+    fill(before, sizeof before);
+    memcpy(buffer, before, sizeof buffer);
+    memcpy(twins, log, 45);
+    memcpy(twins + 45, log + 36, 9);
+
+    /* Refusals in the order of their questions, and an unchanged buffer. */
+    KEPT(pacer_without_twins(twins, 53, buffer, 52), 1, 0, 0);
+    KEPT(pacer_without_twins(twins, 54, buffer, 53), 1, 0, 0);
+    KEPT(pacer_without_twins(twins, 54, buffer, 45), 1, 0, 0);
+    KEPT(pacer_without_twins(twins, 9, buffer, 0), 1, 0, 0);
+    KEPT(pacer_without_twins(twins, 53, buffer, 53), 4, 0, 0);
+    KEPT(pacer_without_twins(twins, 1, buffer, 9), 4, 0, 0);
+    for (size_t i = 0; i < 129; i++)
+        memcpy(many + 9 * i, log, 9);
+    KEPT(pacer_without_twins(many, 129 * 9, buffer, 129 * 9 - 1), 1, 0, 0);
+    KEPT(pacer_without_twins(many, 129 * 9, buffer, sizeof buffer), 5, 0, 0);
+    static const struct {
+        size_t byte;
+        uint8_t content;
+        uint8_t question;
+    } wrong[] = {{0, 0x4D, 6}, {1, 0x48, 6}, {2, 8, 7}, {3, 1, 8}, {8, 4, 9}};
+    for (size_t i = 0; i < sizeof wrong / sizeof wrong[0]; i++) {
+        /* In the later twin, in both, and in the earlier one. */
+        const uint8_t good = log[36 + wrong[i].byte];
+        twins[45 + wrong[i].byte] = wrong[i].content;
+        KEPT(pacer_without_twins(twins, 54, buffer, sizeof buffer), wrong[i].question, 5, 0);
+        twins[36 + wrong[i].byte] = wrong[i].content;
+        KEPT(pacer_without_twins(twins, 54, buffer, sizeof buffer), wrong[i].question, 4, 0);
+        twins[45 + wrong[i].byte] = good;
+        KEPT(pacer_without_twins(twins, 54, buffer, sizeof buffer), wrong[i].question, 4, 0);
+        twins[36 + wrong[i].byte] = good;
+    }
+    BYTES(buffer, before, sizeof buffer);
+
+    /* The last record twice: G is kept, and gives G's slot. A buffer as long as the log will do, and
+     * bytes behind those written keep their content, also those that the log would reach.
+     */
+    for (size_t length = 54; length < 66; length++) {
+        memcpy(buffer, before, sizeof buffer);
+        KEPT(pacer_without_twins(twins, 54, buffer, length), 0, 0, 45);
+        BYTES(buffer, log, 45);
+        BYTES(buffer + 45, before + 45, sizeof buffer - 45);
+    }
+    ANSWER(pacer_query(PACER_SUM, PACER_ROWS, 4, twins, 54, slot, sizeof slot), 21, 5, 0, 0, 0);
+    ANSWER(pacer_query(PACER_SUM, PACER_ROWS, 4, buffer, 45, slot, sizeof slot), 0, 0, 4, 11280, 16);
+    BYTES(slot, slot_g, PACER_SLOT_BYTES);
+
+    /* What is kept has no twins: once more changes nothing. */
+    uint8_t again[45];
+    KEPT(pacer_without_twins(buffer, 45, again, sizeof again), 0, 0, 45);
+    BYTES(again, log, 45);
+
+    /* No record, one, and the order of those that stay: the records 0 1 0 2 1 1 of G give 0 1 2. */
+    memcpy(buffer, before, sizeof buffer);
+    KEPT(pacer_without_twins(twins, 0, buffer, 0), 0, 0, 0);
+    KEPT(pacer_without_twins(twins, 0, buffer, 9), 0, 0, 0);
+    BYTES(buffer, before, sizeof buffer);
+    KEPT(pacer_without_twins(twins, 9, buffer, 9), 0, 0, 9);
+    BYTES(buffer, log, 9);
+    BYTES(buffer + 9, before + 9, sizeof buffer - 9);
+    static const size_t order[] = {0, 1, 0, 2, 1, 1};
+    for (size_t i = 0; i < 6; i++)
+        memcpy(twins + 9 * i, log + 9 * order[i], 9);
+    KEPT(pacer_without_twins(twins, 54, buffer, sizeof buffer), 0, 0, 27);
+    BYTES(buffer, log, 27);
+    BYTES(buffer + 27, before + 27, sizeof buffer - 27);
+
+    /* 128 equal records, and 128 without twins. */
+    memcpy(buffer, before, sizeof buffer);
+    KEPT(pacer_without_twins(many, 128 * 9, buffer, sizeof buffer), 0, 0, 9);
+    BYTES(buffer, log, 9);
+    BYTES(buffer + 9, before + 9, sizeof buffer - 9);
+    for (uint16_t i = 0; i < 128; i++)
+        SAME(pacer_write_record(i % 8, 5, 5, i / 8, many + 9 * i, 9).question, 0);
+    KEPT(pacer_without_twins(many, 128 * 9, buffer, 128 * 9), 0, 0, 128 * 9);
+    BYTES(buffer, many, 128 * 9);
+    BYTES(buffer + 128 * 9, before + 128 * 9, sizeof buffer - 128 * 9);
+}
+
 static void test_read(uint8_t *slot, size_t length)
 {
     struct pacer_read_answer a = pacer_read(slot, length);
@@ -645,6 +854,8 @@ int main(void)
     test_halves();
     test_beats(log);
     test_scenes(log);
+    test_twins(log);
+    test_without_twins(log);
     test_read(slot, sizeof slot);
     test_read_rows(slot, sizeof slot);
     test_row_at(slot, sizeof slot);

@@ -63,6 +63,7 @@ static size_t number;
 static struct pacer_segment segment_list[PACER_SEGMENT_PLACES];
 static struct pacer_row row_list[PACER_ROW_PLACES];
 static uint8_t record[PACER_RECORD_BYTES];
+static uint8_t kept[sizeof log_bytes];
 
 /* The question of the last answer, 0 if it was accepted. */
 static uint8_t question;
@@ -74,6 +75,7 @@ static uint8_t question;
         question = (call).question;           \
     }
 CALL(write_record, pacer_write_record(7, 0, 65535, 1000, record, sizeof record))
+CALL(without_twins, pacer_without_twins(log_bytes, log_length, kept, sizeof kept))
 CALL(query, pacer_query(kind, rule, bound, log_bytes, log_length, slot, sizeof slot))
 CALL(query_beats, pacer_query_beats(kind, beat, start, log_bytes, log_length, slot, sizeof slot))
 CALL(query_scenes, pacer_query_scenes(kind, firsts, scenes, lasts, scenes, log_bytes, log_length,
@@ -107,6 +109,23 @@ static void make_log(unsigned n)
     log_length = PACER_RECORD_BYTES * count;
 }
 
+/* Makes a log of 128 records of one group that cover all frames together. */
+static void make_wide_log(void)
+{
+    for (unsigned i = 0; i < 128; i++) {
+        pacer_write_record(0, (uint16_t)(256 * i), (uint16_t)(32768 + 256 * i + 255),
+                           (uint16_t)(noise(i) % 1001), log_bytes + PACER_RECORD_BYTES * i,
+                           PACER_RECORD_BYTES);
+    }
+    log_length = sizeof log_bytes;
+}
+
+/* Writes the first record over the last one, so that it has a twin. */
+static void make_twin(void)
+{
+    memcpy(log_bytes + log_length - PACER_RECORD_BYTES, log_bytes, PACER_RECORD_BYTES);
+}
+
 /* ---- The table --------------------------------------------------------------------------- */
 
 static int failures = 0;
@@ -134,7 +153,7 @@ static void row(const char *what, size_t needed, size_t said)
     }
 }
 
-/* All kinds and bounds on a log of n segments, and refusals by questions 6 and 10. */
+/* All kinds and bounds on a log of n segments, and refusals by questions 6, 10 and 21. */
 static size_t query_need(unsigned n)
 {
     static const struct {
@@ -157,12 +176,15 @@ static size_t query_need(unsigned n)
     log_bytes[0]++;
     kind = PACER_SUM;
     most(&needed, query, 6);
+    log_bytes[0]--;
+    make_twin();
+    most(&needed, query, 21);
     make_log(n);
     return needed;
 }
 
 /* All kinds of queries by beats on a log over all frames, from no row to 64, and refusals by
- * questions 6, 18 and 20.
+ * questions 6, 18, 20 and 21.
  */
 static size_t beats_need(void)
 {
@@ -186,12 +208,14 @@ static size_t beats_need(void)
     beat = 1024;
     most(&needed, query_beats, 6);
     log_bytes[0]--;
+    make_twin();
+    most(&needed, query_beats, 21);
     log_length = 0;
     most(&needed, query_beats, 0);
     return needed;
 }
 
-/* All kinds of queries by 0 to 16 scenes, and refusals by questions 6, 19 and 20. */
+/* All kinds of queries by 0 to 16 scenes, and refusals by questions 6, 19, 20 and 21. */
 static size_t scenes_need(void)
 {
     size_t needed = 0;
@@ -215,6 +239,47 @@ static size_t scenes_need(void)
     for (size_t i = 0; i < log_length / PACER_RECORD_BYTES; i++)
         log_bytes[PACER_RECORD_BYTES * i + 2] = i % 8;
     most(&needed, query_scenes, 20);
+    make_twin();
+    most(&needed, query_scenes, 21);
+    return needed;
+}
+
+/* The segments of 255 in all kinds, and refusals by questions 6 and 21. */
+static size_t segments_need(void)
+{
+    size_t needed = 0;
+    make_log(255);
+    for (kind = PACER_SUM; kind <= PACER_MEAN; kind++)
+        most(&needed, segments, 0);
+    kind = PACER_SUM;
+    log_bytes[0]++;
+    most(&needed, segments, 6);
+    log_bytes[0]--;
+    make_twin();
+    most(&needed, segments, 21);
+    return needed;
+}
+
+/* Logs of 0, 1 and 128 records without twins, with one and with equal records alone, and a refusal by
+ * question 6.
+ */
+static size_t without_twins_need(void)
+{
+    size_t needed = 0;
+    make_wide_log();
+    most(&needed, without_twins, 0);
+    log_bytes[0]++;
+    most(&needed, without_twins, 6);
+    log_bytes[0]--;
+    make_twin();
+    most(&needed, without_twins, 0);
+    for (size_t i = 1; i < 128; i++)
+        memcpy(log_bytes + PACER_RECORD_BYTES * i, log_bytes, PACER_RECORD_BYTES);
+    most(&needed, without_twins, 0);
+    log_length = PACER_RECORD_BYTES;
+    most(&needed, without_twins, 0);
+    log_length = 0;
+    most(&needed, without_twins, 0);
     return needed;
 }
 
@@ -231,17 +296,6 @@ static void make_slot(int by_windows)
         query_beats();
     else
         query();
-}
-
-/* Makes a log of 128 records of one group that cover all frames together. */
-static void make_wide_log(void)
-{
-    for (unsigned i = 0; i < 128; i++) {
-        pacer_write_record(0, (uint16_t)(256 * i), (uint16_t)(32768 + 256 * i + 255),
-                           (uint16_t)(noise(i) % 1001), log_bytes + PACER_RECORD_BYTES * i,
-                           PACER_RECORD_BYTES);
-    }
-    log_length = sizeof log_bytes;
 }
 
 int main(void)
@@ -261,11 +315,8 @@ int main(void)
     make_wide_log();
     row("pacer_query_scenes", scenes_need(), PACER_WINDOWS_STACK);
 
-    needed = 0;
-    make_log(255);
-    for (kind = PACER_SUM; kind <= PACER_MEAN; kind++)
-        most(&needed, segments, 0);
-    row("pacer_segments", needed, PACER_SEGMENTS_STACK);
+    row("pacer_segments", segments_need(), PACER_SEGMENTS_STACK);
+    row("pacer_without_twins", without_twins_need(), PACER_SLOT_STACK);
 
     needed = 0;
     most(&needed, write_record, 0);

@@ -1,18 +1,19 @@
 #!/usr/bin/env python3
-"""The expected output of the program `profile`, and of queries by windows, computed from the
-paper's words.
+"""The expected output of the program `profile`, of queries by windows and of the call for logs on
+file, computed from the paper's words.
 
     expected.py INPUT                    print what `profile` prints for the file INPUT
     expected.py --cases CASES EXPECTED   write the file of cases and the file of expected output
     expected.py --windows FILE           write the file of queries by windows with their answers
+    expected.py --twins FILE             write the file of logs on file with what is kept of them
 
 An input is the kind (1 byte), 52 for a row limit or 45 for a share (hexadecimal), the bound
 (2 bytes, least byte first) and the log. In the file of cases each case is its length (2 bytes,
 least byte first) and then its bytes; the file of expected output has what `profile` prints for
 one case after another.
 
-The program takes no windows, so their queries are for the Rust tests; each is a line of words,
-which the first lines of the file explain.
+The program takes no windows and keeps no log, so these are for the Rust tests; each query by
+windows and each log on file is a line of words, which the first lines of its file explain.
 
 Frames, segments, blocks and cuts are worked out one by one with Python's whole numbers and
 fractions, by the shortest way from the words and not the fastest.
@@ -36,13 +37,15 @@ def whole(data):
     return int.from_bytes(data, "little")
 
 
+def nines_of(log):
+    """The nine bytes of each record of a log."""
+    return [log[at:at + 9] for at in range(0, len(log) - 8, 9)]
+
+
 def records_of(log):
     """The records of a log: mark, group, first, last, load."""
-    return [
-        (log[at:at + 2], log[at + 2], whole(log[at + 3:at + 5]),
-         whole(log[at + 5:at + 7]), whole(log[at + 7:at + 9]))
-        for at in range(0, len(log) - 8, 9)
-    ]
+    return [(nine[:2], nine[2], whole(nine[3:5]), whole(nine[5:7]), whole(nine[7:9]))
+            for nine in nines_of(log)]
 
 
 def mean_in_hundredths(loads):
@@ -205,15 +208,19 @@ def reduction(segments, kind, rule, bound, rounded=nearest):
 # ---- The program ---------------------------------------------------------------------------
 
 
-def log_questions(log):
-    """Number, index and answer of the questions of a log, in order."""
+def log_questions(log, on_file=False):
+    """Number, index and answer of the questions of a log, in order. Whether an earlier record has
+    the same nine bytes is not asked of a log on file."""
     yield 4, 0, len(log) % 9 == 0
     yield 5, 0, len(log) // 9 <= 128
+    nines = nines_of(log)
     for index, (mark, group, first, last, load) in enumerate(records_of(log)):
         yield 6, index, mark == b"LD"
         yield 7, index, group <= 7
         yield 8, index, first <= last
         yield 9, index, load <= 1000
+        if not on_file:
+            yield 21, index, nines[index] not in nines[:index]
 
 
 def questions(kind, rule, bound, log):
@@ -317,6 +324,23 @@ def windows_answer(kind, rule, log):
     return slot.hex()
 
 
+# ---- Logs on file --------------------------------------------------------------------------
+
+
+def without_twins(log, room):
+    """What the call for logs on file gives with a buffer of some length: 'no', number and index, or
+    the bytes that it writes."""
+    long_enough = 1, 0, room >= len(log)
+    for number, index, yes in itertools.chain([long_enough], log_questions(log, on_file=True)):
+        if not yes:
+            return "no", number, index
+    kept = []
+    for nine in nines_of(log):
+        if nine not in kept:
+            kept.append(nine)
+    return b"".join(kept)
+
+
 # ---- The cases -----------------------------------------------------------------------------
 
 
@@ -350,9 +374,26 @@ PATIENTS = [(0, 1, 4, 600), (0, 1, 2, 400), (0, 4, 7, 300), (0, 5, 6, 50), (0, 9
             (1, 1, 3, 500), (1, 4, 8, 200), (1, 4, 5, 300), (1, 7, 8, 20), (1, 7, 8, 300)]
 
 
+# Records that questions 6 to 9 refuse.
+FAULTS = {
+    6: [b"MD" + record(1, 5, 9, 20)[2:], b"LE" + record(1, 5, 9, 20)[2:],
+        b"DL" + record(1, 5, 9, 20)[2:]],
+    7: [record(8, 5, 9, 20), record(255, 5, 9, 20)],
+    8: [record(1, 9, 5, 20), record(1, 256, 255, 20), record(1, 65535, 0, 20)],
+    9: [record(1, 5, 9, 1001), record(1, 5, 9, 1256), record(1, 5, 9, 65535)],
+}
+
+
 def frames(loads, group=0, start=0):
     """One record of one frame for each load."""
     return [(group, start + i, start + i, load) for i, load in enumerate(loads)]
+
+
+def crowd(count, group=7, core=2000):
+    """So many different records of load 1,000, at most 144, that all contain the same frames, from
+    frame 11 on. They begin with frames 0 to 11 and end with one of the core's last and the eleven
+    frames behind it."""
+    return [(group, 11 - i % 12, 10 + core + i // 12, 1000) for i in range(count)]
 
 
 def played_through():
@@ -385,7 +426,8 @@ def played_through():
     nested = [(2, i, 300 - i, 1000) for i in range(129)]
     for count in (127, 128, 129):
         yield case(1, ROWS, 2, log_of(nested[:count]))
-        yield case(0, ROWS, 1, log_of([(7, 0, 65535, 1000)] * count))
+        yield case(0, ROWS, 1, log_of([(7, i % 12, 65535 - i // 12, 1000) for i in range(count)]))
+        yield case(0, ROWS, 64, log_of(crowd(count)))
 
 
 def published():
@@ -401,28 +443,24 @@ def published():
 
 def refusals():
     """Every refusal of the program, at the first place and at later ones, and pairs of faults."""
-    good = (1, 5, 9, 20)
-    faults = {
-        6: [b"MD" + record(*good)[2:], b"LE" + record(*good)[2:], b"DL" + record(*good)[2:]],
-        7: [record(8, 5, 9, 20), record(255, 5, 9, 20)],
-        8: [record(1, 9, 5, 20), record(1, 256, 255, 20), record(1, 65535, 0, 20)],
-        9: [record(1, 5, 9, 1001), record(1, 5, 9, 1256), record(1, 5, 9, 65535)],
-    }
-    for wrong in itertools.chain.from_iterable(faults.values()):
+    # Records that differ from each other in the load alone.
+    good = [record(1, 5, 9, load) for load in range(20, 1001)]
+    for wrong in itertools.chain.from_iterable(FAULTS.values()):
         for before, after in ((0, 0), (0, 3), (2, 1), (7, 0), (127, 0)):
-            yield case(0, ROWS, 9, record(*good) * before + wrong + record(*good) * after)
+            log = good[:before] + [wrong] + good[before:before + after]
+            yield case(0, ROWS, 9, b"".join(log))
     # Two faults: in one record the lower question, in two records the earlier record.
     for one, two in itertools.permutations((6, 7, 8, 9), 2):
-        yield case(0, ROWS, 9, record(*good) + faults[one][0] + faults[two][0])
+        yield case(0, ROWS, 9, good[0] + FAULTS[one][0] + FAULTS[two][0])
     yield case(0, ROWS, 9, b"XX" + bytes([9]) + record(1, 9, 5, 2000)[3:])
     yield case(0, ROWS, 9, record(9, 9, 5, 2000))
     yield case(0, ROWS, 9, record(1, 9, 5, 2000))
     # Lengths of the log; a wrong length comes ahead of too many records and of wrong records.
     for length in list(range(0, 20)) + [1151, 1152, 1153, 1160, 1161, 1162, 1170]:
-        yield case(0, ROWS, 9, (record(*good) * 140)[:length])
+        yield case(0, ROWS, 9, b"".join(good)[:length])
         yield case(0, ROWS, 9, bytes(length))
-    yield case(0, ROWS, 9, record(*good) * 1000)
-    yield case(0, ROWS, 9, record(*good) * 1000 + b"L")
+    yield case(0, ROWS, 9, b"".join(good))
+    yield case(0, ROWS, 9, b"".join(good[:300]) + b"L")
     # Kinds, letters and bounds, alone and together.
     g = log_of(LOG_G)
     for kind in (5, 6, 0x52, 127, 128, 255):
@@ -527,7 +565,8 @@ def halves():
         [(5, 0, 32766, 0), (5, 32767, 65535, 1)],
         # Counts of 1 and 2, 2 and 5; least and greatest loads, 1 apart and 3 apart.
         [(0, 0, 3, 8), (0, 2, 3, 9)], [(0, 0, 3, 9), (0, 2, 3, 8)],
-        [(0, 0, 3, 8)] * 2 + [(0, 0, 1, 5)] * 3, [(6, 0, 9, 4), (6, 5, 9, 1), (6, 0, 4, 7)],
+        [(0, 0, 3, 7), (0, 0, 3, 9), (0, 0, 1, 4), (0, 0, 1, 5), (0, 0, 1, 6)],
+        [(6, 0, 9, 4), (6, 5, 9, 1), (6, 0, 4, 7)],
         # Means in hundredths: 100 and 150 have 125; 33 and 0 have 16.5.
         [(0, 0, 1, 1), (0, 1, 1, 2)], [(0, 0, 1, 0), (0, 0, 0, 0), (0, 0, 0, 1)],
     ]
@@ -537,12 +576,30 @@ def halves():
                 yield case(kind, ROWS, c, log_of(log))
             yield case(kind, SHARE, 1000, log_of(log))
     # Sums and counts of 127 and 128 records: 127,000 once and 128,000 1,999 times has the mean
-    # 127,999.5. Means in hundredths: 99,999 and 100,000.
-    both = 127 * [(3, 0, 1999, 1000)]
-    for more in ((1, 1999, 1000), (1, 1998, 1000), (2, 1999, 1000), (1000, 1999, 1)):
+    # 127,999.5. 22 rows are one for each frame on both sides, and one for those that all contain.
+    # Means in hundredths: 99,999 and 100,000, each in 200 frames.
+    for more in ((12, 2010, 1000), (12, 2009, 1000), (13, 2010, 1000)):
         for kind in (0, 1):
-            yield case(kind, ROWS, 1, log_of(both + [(3, *more)]))
-    yield case(4, ROWS, 1, log_of([(2, 0, 1, 1000)] * 127 + [(2, 0, 0, 999)]))
+            yield case(kind, ROWS, 22, log_of(crowd(127, 3) + [(3, *more)]))
+    yield case(0, ROWS, 22, log_of(crowd(127, 3) + [(3, 1011, 2010, 1)]))
+    yield case(1, ROWS, 22, log_of(crowd(127, 3, core=2) + [(3, 12, 12, 1)]))
+    yield case(4, ROWS, 1, log_of([(2, i, 399, 1000) for i in range(127)] + [(2, 200, 399, 999)]))
+
+
+def records_at_random(numbers, base, span):
+    """Up to nine records over some frames. In every tenth log or so one of them stands twice; the
+    others are all different."""
+    records = []
+    wanted = numbers.randint(0, 9)
+    while len(records) < wanted:
+        first, last = sorted(numbers.randrange(span) for _ in range(2))
+        one = (numbers.choice((0, 0, 3, 7)), base + first, base + last,
+               numbers.choice((0, 1, 2, 3, 10, 1000)))
+        if one not in records:
+            records.append(one)
+    if records and numbers.randrange(10) == 0:
+        records.insert(numbers.randint(0, wanted), numbers.choice(records))
+    return records
 
 
 def at_random():
@@ -551,13 +608,115 @@ def at_random():
     for _ in range(150):
         span = numbers.randint(1, 16)
         base = numbers.choice((0, 0, 0, 65536 - span))
-        records = []
-        for _ in range(numbers.randint(0, 9)):
-            first, last = sorted(numbers.randrange(span) for _ in range(2))
-            records.append((numbers.choice((0, 0, 3, 7)), base + first, base + last,
-                            numbers.choice((0, 1, 2, 3, 10, 1000))))
+        records = records_at_random(numbers, base, span)
         rule, most = numbers.choice(((ROWS, 9), (SHARE, 1000)))
         yield case(numbers.choice(KINDS), rule, numbers.randint(0, most), log_of(records))
+
+
+def different(count):
+    """So many different records of all groups, at most 128."""
+    return [record(i % 8, 3 * i, 3 * i + i % 5, i) for i in range(count)]
+
+
+# A record that is still in order when any one of its seven bytes after the mark is another.
+ANY_BYTE = record(1, 0x012C, 0x0384, 0x01F4)
+
+
+def one_byte_off():
+    """Records that differ from ANY_BYTE in one byte each, all in order."""
+    others = [record(2, 0x012C, 0x0384, 0x01F4), record(1, 0x012D, 0x0384, 0x01F4),
+              record(1, 0x002C, 0x0384, 0x01F4), record(1, 0x012C, 0x0385, 0x01F4),
+              record(1, 0x012C, 0x0484, 0x01F4), record(1, 0x012C, 0x0384, 0x01F5),
+              record(1, 0x012C, 0x0384, 0x00F4)]
+    for place, other in enumerate(others, 2):
+        assert [at for at in range(9) if other[at] != ANY_BYTE[at]] == [place]
+    return others
+
+
+def one_bit_off(nine):
+    """A record's nine bytes with one bit changed, each of the 72."""
+    return [(whole(nine) ^ 1 << bit).to_bytes(9, "little") for bit in range(72)]
+
+
+def twin_logs():
+    """Logs with twins, and logs whose records are nearly equal, by their records' bytes."""
+    g = nines_of(log_of(LOG_G))
+    a, b, c = g[:3]
+    # A record of G once more, before or after every record behind it.
+    for one in range(len(g)):
+        for place in range(one + 1, len(g) + 1):
+            yield g[:place] + [g[one]] + g[place:]
+    # Three equal ones, two different pairs, and a whole log twice.
+    yield from ([a, a, a], [b, a, b, c, b], [a, a, b, b], [a, b, b, a], [a, b, a, b],
+                [b, a, c, a, b])
+    yield g + g
+    # All but equal: another byte, every other byte in one log, and bytes in other places.
+    for other in one_byte_off():
+        yield [ANY_BYTE, other]
+        yield [other, a, ANY_BYTE]
+    yield [ANY_BYTE] + one_byte_off()
+    yield [ANY_BYTE] + one_byte_off() + [ANY_BYTE]
+    yield one_byte_off() + [one_byte_off()[3]]
+    yield [record(1, 2, 770, 515), record(2, 1, 770, 515), record(1, 2, 515, 770),
+           record(1, 512, 770, 515), record(2, 256, 770, 515), record(1, 2, 515, 770)]
+    # A bad record before the later one of two twins, after it, and twice.
+    for wrong in [several[0] for several in FAULTS.values()]:
+        yield from ([a, wrong, a], [wrong, a, a], [a, a, wrong], [a, b, a, wrong], [wrong, wrong],
+                    [a, wrong, wrong], [a, wrong, b, wrong, a], [a, b, wrong, b])
+
+
+def twins():
+    """Logs with a record that an earlier one equals, and logs in which two are nearly equal."""
+    g = log_of(LOG_G)
+    for log in twin_logs():
+        yield case(0, ROWS, 64, b"".join(log))
+    # Any one bit of the nine bytes.
+    for other in one_bit_off(ANY_BYTE):
+        yield case(0, ROWS, 64, ANY_BYTE + other)
+    # 128 records: the first and the last are equal, the last two, all, and none.
+    many = different(128)
+    for log in (many[:127] + many[:1], many[:127] + many[126:127], many[:1] * 128, many):
+        yield case(1, ROWS, 64, b"".join(log))
+    # By every kind and both bounds, also where there are too few rows.
+    for again in (g[:9], g[36:]):
+        for kind in KINDS:
+            yield case(kind, ROWS, 4, g + again)
+            yield case(kind, SHARE, 300, g + again)
+    for rule, bound in ((ROWS, 0), (ROWS, 1), (ROWS, 2), (ROWS, 3), (SHARE, 0), (SHARE, 1000)):
+        yield case(0, rule, bound, g + g[:9])
+    steep = log_of(frames([1 + i % 2 for i in range(80)]))
+    yield case(0, SHARE, 0, steep + steep[-9:])
+    yield case(0, SHARE, 0, steep)
+    # Kind, letter, bound, length and count come ahead of twins.
+    for kind, rule, bound in ((5, ROWS, 4), (0, 0x44, 4), (0, ROWS, 65), (0, SHARE, 1001)):
+        yield case(kind, rule, bound, g + g[:9])
+    yield case(0, ROWS, 4, g + g[:9] + b"L")
+    yield case(0, ROWS, 4, g + g[:8])
+    yield case(0, ROWS, 4, b"".join(many) + many[5])
+
+
+def windows_with_twins():
+    """Queries by windows of logs with twins: kind, rule, log."""
+    g = log_of(LOG_G)
+    rules = (Beats(4, 0), Beats(1, 0), Scenes([0, 4], [3, 9]), Scenes([65535], [65535]))
+    for rule in rules:
+        for kind in KINDS:
+            yield kind, rule, g + g[9:18]
+    for log in twin_logs():
+        yield 0, Scenes([0, 3], [2, 65535]), b"".join(log)
+    for log in itertools.islice(twin_logs(), 21):
+        yield 1, Beats(2, 1), b"".join(log)
+    # Ahead of 21 the kind, the windows, length and count; behind it the number of rows.
+    wide = log_of([(0, 0, 64, 1), (3, 0, 9, 7)])
+    many = different(128)
+    for rule in rules + (Beats(0, 0), Scenes([], []), Scenes([4], [3]), Scenes([0], [])):
+        for kind in (0, 5):
+            for log in (wide, wide + wide[:9], wide + wide[9:], wide[:9] + wide + wide,
+                        wide + wide[:9] + b"L"):
+                yield kind, rule, log
+    yield 0, Beats(1, 0), b"".join(many[:127] + many[:1])
+    yield 0, Scenes([0], [9]), b"".join(many[:127] + many[126:127])
+    yield 0, Scenes([0], [9]), b"".join(many + many[:1])
 
 
 def scene_lists():
@@ -639,12 +798,13 @@ def by_windows():
     yield 0, Scenes(list(sixteen)[:15] + [160], list(sixteen)[:15] + [160]), log_of(
         quarters + [(7, 160, 160, 1)])
     yield 1, Beats(1, 0), log_of([(group, 0, 65535, 1000) for group in range(8)])
-    # The greatest sum, and 129 records.
+    # The greatest sum, and 129 records: all of them meet frames 3 to 22 and no later ones.
+    meeting = [(7, first, last, 1000) for first in range(8) for last in range(max(3, first), 23)]
     for count in (127, 128, 129):
-        yield 0, Beats(9, 3), log_of([(7, 5, 5, 1000)] * count)
+        yield 0, Beats(20, 3), log_of(meeting[:count])
     # Frames of one record in several windows; records that meet a window in one frame at its end.
     edges = [(1, 0, 9, 1), (1, 9, 10, 2), (1, 19, 20, 4), (1, 20, 20, 8), (1, 29, 30, 16),
-             (1, 39, 50, 32), (1, 39, 50, 32)]
+             (1, 39, 50, 32), (1, 39, 51, 32)]
     for kind in KINDS:
         for start in (0, 9, 10, 11):
             yield kind, Beats(10, start), log_of(edges)
@@ -660,16 +820,13 @@ def by_windows():
     for _ in range(150):
         span = numbers.randint(1, 30)
         base = numbers.choice((0, 0, 100, 65536 - span))
-        records = []
-        for _ in range(numbers.randint(0, 9)):
-            first, last = sorted(numbers.randrange(span) for _ in range(2))
-            records.append((numbers.choice((0, 0, 3, 7)), base + first, base + last,
-                            numbers.choice((0, 1, 2, 3, 10, 1000))))
+        records = records_at_random(numbers, base, span)
         start = max(0, base + numbers.randint(-3, span))
         ends = sorted(numbers.randrange(base, base + span) for _ in range(numbers.randint(1, 8)))
         rule = numbers.choice((Beats(numbers.randint(1, 9), min(start, 65535)),
                                Scenes(ends[0::2], (ends + [65535])[1::2])))
         yield numbers.choice(KINDS), rule, log_of(records)
+    yield from windows_with_twins()
 
 
 WINDOWS_HEAD = """\
@@ -692,11 +849,77 @@ def windows_lines():
     return [f"{asked}: {answer}\n" for asked, answer in lines.items()]
 
 
+def on_file():
+    """Logs on file, each with the length of the buffer."""
+    g = log_of(LOG_G)
+    # Buffers shorter than the log, as long and longer.
+    for log in (b"", g, g + g, g[:9] * 3):
+        for room in (0, len(log) - 9, len(log) - 1, len(log), len(log) + 1, len(log) + 30):
+            if room >= 0:
+                yield log, room
+    # Twins anywhere, and nearly equal records, with bad ones among them.
+    for records in twin_logs():
+        log = b"".join(records)
+        yield log, len(log) + 2
+        if len(records) > 4:
+            yield log, len(log) - 1
+    for other in one_bit_off(ANY_BYTE)[::5]:
+        yield ANY_BYTE + other, 18
+    # Each bad record at each place of a short log, and behind twins; pairs of faults.
+    for wrong in itertools.chain.from_iterable(FAULTS.values()):
+        for place in range(4):
+            yield g[:9 * place] + wrong + g[9 * place:27], 36
+        yield g[:18] + g[:18] + wrong + g[:9], 54
+    for one, two in itertools.permutations(FAULTS, 2):
+        yield g[:9] + FAULTS[one][0] + g[:9] + FAULTS[two][0], 36
+    # Length, then count, then the records; the buffer comes ahead of all.
+    many = different(128)
+    bad = FAULTS[6][0]
+    for log in (g[:-1], g + g[:1], bad + g[:8], b"".join(many) + bad, bad * 129 + b"L"):
+        yield log, len(log)
+        if len(log) < 100:
+            yield log, len(log) - 1
+    # 128 records: none equal, all, the first and the last, and half of them twice.
+    for log in (many, many[:1] * 128, many[:127] + many[:1], many[:64] * 2):
+        yield b"".join(log), 1152
+    yield b"".join(many[:127] + many[:1]), 1151
+
+
+TWINS_HEAD = """\
+# Logs on file and what is kept of them, made by tools/expected.py --twins. A line is
+#     LOG ROOM: ANSWER
+# LOG is bytes in hexadecimal, - if there are none, and ROOM the length of the buffer, whose byte at
+# place k is the remainder of 7 k + 1 by 256 before the call. ANSWER is 'no', number and index, and
+# then the buffer is as before; or the length written and all bytes of the buffer after the call, -
+# if it has none.
+"""
+
+
+def twins_lines():
+    """The lines of the file of logs on file, each once. What is written comes back as it is when it
+    is put through again."""
+    lines = {}
+    asked = list(on_file())
+    kept = [(log, without_twins(log, room)) for log, room in asked]
+    again = [(found, len(found)) for log, found in kept
+             if isinstance(found, bytes) and found != log]
+    for log, room in asked + again:
+        found = without_twins(log, room)
+        if isinstance(found, bytes):
+            assert without_twins(found, len(found)) == found
+            after = found + bytes((7 * k + 1) % 256 for k in range(len(found), room))
+            answer = f"{len(found)} {after.hex() or '-'}"
+        else:
+            answer = " ".join(map(str, found))
+        lines[f"{log.hex() or '-'} {room}"] = answer
+    return [f"{words}: {answer}\n" for words, answer in lines.items()]
+
+
 def all_cases():
     """Every case once, in order."""
     return list(dict.fromkeys(itertools.chain(
         played_through(), published(), refusals(), short_inputs(), longest(), means(), greatest(),
-        halves(), at_random())))
+        halves(), at_random(), twins())))
 
 
 def check_halves():
@@ -726,6 +949,32 @@ def check_halves():
     assert all((risen[kind] > 0) == (kind != GREATEST) for kind in KINDS), risen
 
 
+def check_twins():
+    """A log has twins exactly if the call for logs on file leaves something out, and what it keeps
+    has none. Otherwise the two are asked the same."""
+    left_out = 0
+    for log in dict.fromkeys(data[4:] for data in all_cases()):
+        first_no = next(((number, index) for number, index, yes in log_questions(log) if not yes),
+                        None)
+        kept = without_twins(log, len(log))
+        if isinstance(kept, bytes):
+            assert all(yes for _, _, yes in log_questions(kept))
+            assert sorted(set(nines_of(kept))) == sorted(nines_of(kept))
+            assert set(nines_of(kept)) == set(nines_of(log))
+            if kept == log:
+                assert first_no is None
+            else:
+                # Up to the twin that is refused, nothing is left out.
+                number, index = first_no
+                assert number == 21 and kept[:9 * index] == log[:9 * index]
+                assert log[9 * index:][:9] in nines_of(kept[:9 * index])
+                left_out += 1
+        else:
+            # Of two bad records, or of a bad one and a twin, the earlier one is refused.
+            assert first_no == kept[1:] or (first_no[0] == 21 and first_no[1] < kept[2])
+    assert left_out > 30, left_out
+
+
 def check_known():
     """The numbers that the paper prints."""
     g = log_of(LOG_G)
@@ -749,8 +998,10 @@ def check_known():
     assert [nearest(Fraction(*mean)) for mean in ((1, 2), (3, 2), (1, 3), (2, 3), (5, 1))] == [
         1, 2, 0, 1, 5]
     assert profile(case(0, ROWS, 1, log_of(frames([0, 1])))) == "1 1 0\n0 0 1 1\n"
-    large = log_of(127 * [(3, 0, 1999, 1000)] + [(3, 1, 1999, 1000)])
-    assert profile(case(0, ROWS, 1, large)) == "1 1000000 0\n3 0 1999 128000\n"
+    large = profile(case(0, ROWS, 22, log_of(crowd(127, 3) + [(3, 12, 2010, 1000)]))).split("\n")
+    assert large[0].startswith("22 1000000 ") and "3 11 2010 128000" in large
+    counts = profile(case(1, ROWS, 22, log_of(crowd(127, 3, core=2) + [(3, 12, 12, 1)])))
+    assert counts.startswith("22 1 ") and "3 11 12 128" in counts.split("\n")
     assert profile(case(4, ROWS, 1, log_of([(0, 0, 1, 0), (0, 0, 0, 0), (0, 0, 0, 1)]))) == (
         "1 545 0\n0 0 1 17\n")
     several = profile(case(0, ROWS, 3, log_of(frames([0, 1, 500, 501, 900, 907])))).split("\n")
@@ -770,6 +1021,25 @@ def check_known():
     assert len(Beats(1, 0).windows()) == 65536
     assert windows_answer(0, Beats(65535, 6), g) == (
         "505300010000000000000000" "505200" "0600" "ffff" "04010000")
+    # Twins: a record of G once more is refused as the sixth, and is all that is left out. The sum
+    # of a record that stands twice is not doubled any more.
+    for again in nines_of(g):
+        assert profile(case(0, ROWS, 4, g + again)) == "no 21 5\n"
+        assert profile(case(3, ROWS, 0, again + g)).startswith("no 21 ")
+        assert windows_answer(0, Beats(1, 0), g + again) == "no 21 5"
+        assert without_twins(g + again, 54) == g
+    assert profile(case(0, ROWS, 4, g[:9] * 3)) == "no 21 1\n"
+    assert profile(case(0, ROWS, 4, without_twins(g[:9] * 3, 27))) == "1 0 0\n0 0 3 100\n"
+    assert profile(case(0, ROWS, 4, g[:9] + record(8, 0, 3, 100) + g[:9])) == "no 7 1\n"
+    assert profile(case(0, ROWS, 4, g[:9] + g[:9] + record(8, 0, 3, 100))) == "no 21 1\n"
+    assert profile(case(0, ROWS, 4, 2 * record(8, 0, 3, 100))) == "no 7 0\n"
+    assert windows_answer(0, Beats(1, 0), log_of([(0, 0, 64, 1)] * 2)) == "no 21 1"
+    assert windows_answer(0, Beats(1, 0), log_of([(0, 0, 64, 1), (0, 0, 64, 2)])) == "no 20 0"
+    a, b, c, d, e = nines_of(g)
+    assert without_twins(b + a + b + c + a + e, 54) == b + a + c + e
+    assert without_twins(b"", 0) == b"" and without_twins(g + d, 53) == ("no", 1, 0)
+    assert without_twins(g + d + record(0, 4, 3, 7), 63) == ("no", 8, 6)
+    assert all(without_twins(ANY_BYTE + other, 18) == ANY_BYTE + other for other in one_byte_off())
     # The published reductions: first and last frames are the same, and a row value is the whole
     # number nearest to the published mean, of which 467.5 is one.
     assert profile(case(0, ROWS, 4, log_of(PROJ))).split("\n")[1:5] == [
@@ -792,6 +1062,7 @@ def main(words):
     if len(words) == 3 and words[0] == "--cases":
         cases = all_cases()
         check_halves()
+        check_twins()
         data = b"".join(len(one).to_bytes(2, "little") + one for one in cases)
         if len(data) >= 262144:
             print("the file of cases is too long", file=sys.stderr)
@@ -802,12 +1073,17 @@ def main(words):
             file.writelines(profile(one) for one in cases)
         print(f"{len(cases)} cases, {len(data)} bytes", file=sys.stderr)
         return 0
-    if len(words) == 2 and words[0] == "--windows":
-        lines = windows_lines()
+    listed = {
+        "--windows": (WINDOWS_HEAD, windows_lines, "queries by windows"),
+        "--twins": (TWINS_HEAD, twins_lines, "logs on file"),
+    }
+    if len(words) == 2 and words[0] in listed:
+        head, lines_of, name = listed[words[0]]
+        lines = lines_of()
         with open(words[1], "w", encoding="ascii", newline="\n") as file:
-            file.write(WINDOWS_HEAD)
+            file.write(head)
             file.writelines(lines)
-        print(f"{len(lines)} queries by windows", file=sys.stderr)
+        print(f"{len(lines)} {name}", file=sys.stderr)
         return 0
     print(__doc__, file=sys.stderr)
     return 2

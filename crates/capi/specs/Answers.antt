@@ -7,9 +7,10 @@ use mathlib.Core.Path.{_≡_}
 use Rattle.model.specs.Spans.{Span}
 use Rattle.model.specs.Questions.{Outcome, refused, accepted}
 use Rattle.model.specs.Calls.{Counts, Header}
-use Rattle.model.specs.Demands.{RuledPromise}
+use Rattle.model.specs.Demands.{FilePromise, RuledPromise}
 use Rattle.model.specs.declared.RuledQuery.{RuledQuery}
 use Rattle.capi.specs.declared.answers.CRecordAnswer.{CRecordAnswer}
+use Rattle.capi.specs.declared.answers.CLogAnswer.{CLogAnswer}
 use Rattle.capi.specs.declared.answers.CQueryAnswer.{CQueryAnswer}
 use Rattle.capi.specs.declared.answers.CSegmentsAnswer.{CSegmentsAnswer}
 use Rattle.capi.specs.declared.answers.CReadAnswer.{CReadAnswer}
@@ -23,6 +24,14 @@ spanOf group first last load = record { group = group; first = first; last = las
 unfoldable pub recordFields : Outcome (Unit {0}) → CRecordAnswer
 recordFields (accepted u) = record { question = 0; index = 0 }
 recordFields (refused number index) = record { question = number; index = index }
+
+unfoldable pub logFields : Outcome ℕ → CLogAnswer
+logFields (accepted n) = record { question = 0; index = 0; length = n }
+logFields (refused number index) = record { question = number; index = index; length = 0 }
+
+-- these fields are those of a call that keeps the promise of a call for logs on file
+abbrev pub FileFields : List ℕ → CLogAnswer → List ℕ → Type 0
+FileFields log answer after = (says : Outcome ℕ) × (answer ≡ logFields says) × FilePromise log says after
 
 unfoldable pub queryFields : Outcome Counts → CQueryAnswer
 queryFields (accepted c) =

@@ -1,5 +1,6 @@
 // The answers of the tool's calls as C structs. The question is 0 where a call is accepted; in a refusal every other field but
 // the index is 0, and so are a row's fields where there is no row.
+use model::LogAnswer;
 use model::LookupAnswer;
 use model::QueryAnswer;
 use model::ReadAnswer;
@@ -7,13 +8,21 @@ use model::RecordAnswer;
 use model::SegmentsAnswer;
 use model::Step;
 ghost use mathlib.Core.Path.{_≡_};
-ghost use Rattle.model.specs.Calls.{recordCase, queryCase, segmentsCase, readCase, stepCase, lookupCase};
-ghost use Rattle.capi.specs.Answers.{recordFields, queryFields, segmentsFields, readFields, stepFields, lookupFields, noRow};
+ghost use Rattle.model.specs.Calls.{recordCase, logCase, queryCase, segmentsCase, readCase, stepCase, lookupCase};
+ghost use Rattle.capi.specs.Answers.{recordFields, logFields, queryFields, segmentsFields, readFields, stepFields, lookupFields, noRow};
 
 #[repr(C)]
 pub struct CRecordAnswer {
     pub question: u8,
     pub index: usize,
+}
+
+// `length` is the number of bytes written.
+#[repr(C)]
+pub struct CLogAnswer {
+    pub question: u8,
+    pub index: usize,
+    pub length: usize,
 }
 
 #[repr(C)]
@@ -77,6 +86,24 @@ pub fn of_record(answer: RecordAnswer) -> CRecordAnswer
         RecordAnswer::Refused(refusal) => CRecordAnswer {
             question: refusal.question,
             index: refusal.index,
+        },
+    }
+}
+
+// The answer of the call for logs on file.
+pub fn of_log(answer: LogAnswer) -> CLogAnswer
+    ensures { λ r. ⌜ r ≡ logFields (logCase answer) ⌝ }
+{
+    match answer {
+        LogAnswer::Written(length) => CLogAnswer {
+            question: 0,
+            index: 0,
+            length,
+        },
+        LogAnswer::Refused(refusal) => CLogAnswer {
+            question: refusal.question,
+            index: refusal.index,
+            length: 0,
         },
     }
 }

@@ -3,6 +3,7 @@
 // the places lent to it hold afterwards, and has no `requires`.
 mod answers;
 
+use answers::CLogAnswer;
 use answers::CLookupAnswer;
 use answers::CQueryAnswer;
 use answers::CReadAnswer;
@@ -16,10 +17,10 @@ ghost use mathlib.Core.Path.{_≡_};
 ghost use lib.ListN.{length};
 ghost use Rattle.model.specs.Questions.{Outcome};
 ghost use Rattle.model.specs.Demands.{LetterPromise};
-ghost use Rattle.model.specs.Calls.{Counts, writeOutcome, writtenBuffer, letterOutcome, letterSlot, segmentsOutcome, filledList};
+ghost use Rattle.model.specs.Calls.{Counts, writeOutcome, writtenBuffer, withoutTwinsOutcome, withoutTwinsBuffer, letterOutcome, letterSlot, segmentsOutcome, filledList};
 ghost use Rattle.model.specs.Calls.{ruledOutcome, ruledSlot, beatQuery, sceneQuery};
 ghost use Rattle.model.specs.Calls.{readOutcome, readListOutcome, readList, stepOutcome, stepNext, lookupOutcome};
-ghost use Rattle.capi.specs.Answers.{spanOf, recordFields, queryFields, RuledFields, segmentsFields, readFields, stepFields, lookupFields};
+ghost use Rattle.capi.specs.Answers.{spanOf, recordFields, logFields, FileFields, queryFields, RuledFields, segmentsFields, readFields, stepFields, lookupFields};
 
 // Writes a record to the front of a buffer.
 #[no_mangle]
@@ -41,6 +42,17 @@ pub extern "C" fn pacer_write_record(
     };
     let answer = pacer::write_record(record, buffer);
     answers::of_record(answer)
+}
+
+// Writes a log on file to the front of a buffer, with the first of equal records and the others in their order.
+#[no_mangle]
+pub extern "C" fn pacer_without_twins(log: &[u8], buffer: &mut [u8]) -> CLogAnswer
+    ensures says { λ r. ⌜ r ≡ logFields (withoutTwinsOutcome (now (log .entry)) (length (now (buffer .entry)))) ⌝ }
+    ensures holds { λ _. ⌜ now (buffer .exit) ≡ withoutTwinsBuffer (now (log .entry)) (now (buffer .entry)) ⌝ }
+    ensures promise { λ r. ⌜ FileFields (now (log .entry)) r (now (buffer .exit)) ⌝ }
+{
+    let answer = pacer::without_twins(log, buffer);
+    answers::of_log(answer)
 }
 
 // Answers a query about a log and writes its rows into a slot. The rule is 52 for a row limit and 45 for a share.

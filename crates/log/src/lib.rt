@@ -1,8 +1,9 @@
-// The log: questions 4 to 9 over its bytes, its records decoded into arrays, and the record writer.
+// The log: questions 4 to 9 and 21 over its bytes, its records decoded into arrays, the call for logs on file, and the record writer.
 use common::low;
 use common::no;
 use common::two;
 use model::Asked;
+use model::LogAnswer;
 use model::MOST_GROUP;
 use model::MOST_LOAD;
 use model::MOST_RECORDS;
@@ -16,8 +17,9 @@ ghost use mathlib.Core.List.{[]};
 ghost use Prim.Native.Nat.{_+_, _*_, _≤_};
 ghost use lib.ListN.{length};
 ghost use Rattle.model.specs.Log.{recordBytes, recordAt, recordCount, records};
-ghost use Rattle.model.specs.Questions.{outcome, each, spanQuestions, recordQuestions, logQuestions, mostRecords};
-ghost use Rattle.model.specs.Calls.{recordSpan, askedCase, recordCase, writeOutcome, writtenBuffer};
+ghost use Rattle.model.specs.Questions.{outcome, each, spanQuestions, recordQuestions, fileQuestions, logQuestions, mostRecords};
+ghost use Rattle.model.specs.Calls.{recordSpan, askedCase, recordCase, writeOutcome, writtenBuffer, logCase, withoutTwinsOutcome, withoutTwinsBuffer};
+ghost use Rattle.model.specs.Demands.{FilePromise};
 ghost use Rattle.model.specs.Arrays.{recordArrays};
 
 // The record whose bytes begin at a place.
@@ -78,9 +80,9 @@ fn ask_records(log: &[u8], count: usize) -> Asked
     Asked::Passed
 }
 
-// Questions 4 to 9.
-pub fn ask(log: &[u8]) -> Asked
-    ensures { λ r. ⌜ askedCase r ≡ outcome (logQuestions (now (log .entry))) tt ⌝ }
+// Questions 4 to 9: all that a log on file is asked.
+fn ask_file(log: &[u8]) -> Asked
+    ensures { λ r. ⌜ askedCase r ≡ outcome (fileQuestions (now (log .entry))) tt ⌝ }
 {
     let count = log.len() / RECORD_LENGTH;
     if log.len() % RECORD_LENGTH != 0 {
@@ -90,6 +92,42 @@ pub fn ask(log: &[u8]) -> Asked
         return no(5, 0);
     }
     ask_records(log, count)
+}
+
+// Questions 4 to 9 and 21. A record's 21 comes before the next one's questions, so where 4 to 9 have a first 'no', the records before
+// that one are asked 21 ahead of it. The index of 4 and 5 is 0, and no record is before it.
+pub fn ask(log: &[u8]) -> Asked
+    ensures { λ r. ⌜ askedCase r ≡ outcome (logQuestions (now (log .entry))) tt ⌝ }
+{
+    match ask_file(log) {
+        Asked::Passed => twins::ask(log, log.len() / RECORD_LENGTH),
+        Asked::Refused(refusal) => match twins::ask(log, refusal.index) {
+            Asked::Passed => Asked::Refused(refusal),
+            Asked::Refused(twin) => Asked::Refused(twin),
+        },
+    }
+}
+
+// Writes a log on file to the front of a buffer, with the first of equal records and the others in their order, or tells which
+// question refused it and writes nothing.
+pub fn without_twins(log: &[u8], buffer: &mut [u8]) -> LogAnswer
+    ensures says { λ r. ⌜ logCase r ≡ withoutTwinsOutcome (now (log .entry)) (length (now (buffer .entry))) ⌝ }
+    ensures holds { λ _. ⌜ now (buffer .exit) ≡ withoutTwinsBuffer (now (log .entry)) (now (buffer .entry)) ⌝ }
+    ensures promise { λ r. ⌜ FilePromise (now (log .entry)) (logCase r) (now (buffer .exit)) ⌝ }
+{
+    if buffer.len() < log.len() {
+        return LogAnswer::Refused(Refusal {
+            question: 1,
+            index: 0,
+        });
+    }
+    match ask_file(log) {
+        Asked::Passed => {
+            let written = twins::keep(log, log.len() / RECORD_LENGTH, buffer);
+            LogAnswer::Written(written)
+        }
+        Asked::Refused(refusal) => LogAnswer::Refused(refusal),
+    }
 }
 
 // No records.

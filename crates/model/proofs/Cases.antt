@@ -10,14 +10,14 @@ use native.Mathlib.Omega.{arith}
 use lib.Dec.{leb, eqb}
 use lib.IntN.{pos}
 use lib.ListN.{length, drop, replicate}
-use Rattle.model.specs.Common.{sumFrom, sumOf, listFrom, isSome, numberAt, bytesOf}
+use Rattle.model.specs.Common.{sumFrom, sumOf, listFrom, every, isSome, numberAt, bytesOf}
 use Rattle.model.specs.Spans.{Span, groupCount, frameCount, spanLength, meets, holds, adjacent, nowhere}
-use Rattle.model.specs.Log.{recordLength, recordBytes, recordAt, recordCount, records, meeting, sum, aggregate, greatestKind, aggregated, value}
+use Rattle.model.specs.Log.{recordLength, recordBytes, recordAt, recordCount, twins, isFirst, records, meeting, sum, aggregate, greatestKind, aggregated, value}
 use Rattle.model.specs.Segments.{join, fuse, place, framesFrom, groupsFrom, segmentsOf, segments}
 use Rattle.model.specs.Blocks.{segmentAt, gap, lastGap, runsTo, block, empty, totalsOf, add, totals, nearest, valueFor, rowValue, squared, errorWith, blockError, rowOf}
 use Rattle.model.specs.Split.{untried, plus, below, exceeds, weigh, scan, single, cell, least, weighed, cutsOf, rowsOf, fewest, within, firstThat, mostRows, chosen, rowsTried, Reduced, errorOf, gapBelow, runs, leastOf, countFor, reducedTo, reduced}
 use Rattle.model.specs.Slot.{slotLength, byBound, rowBytes, rowsBytes, usedBytes, slotBytes, rowPlace, slotMark, slotKind, slotCount, slotError, slotRow, slotRows, valueIn}
-use Rattle.model.specs.Questions.{ask, Outcome, refused, accepted, outcome, each, marked, askRoom, kindKnown, boundKnown, groupKnown, spanQuestions, recordQuestions, mostRecords, logQuestions, orderQuestions, enoughRows, queryQuestions}
+use Rattle.model.specs.Questions.{ask, Outcome, refused, accepted, outcome, each, marked, askRoom, kindKnown, boundKnown, groupKnown, spanQuestions, recordQuestions, twinQuestions, mostRecords, logQuestions, orderQuestions, enoughRows, queryQuestions}
 use Rattle.model.specs.Questions.{lent, writeQuestions, follows, inOrder, rowKnown, rowQuestions, zeros, tailZero, errorKnown, headerMarked, slotQuestions}
 use Rattle.model.specs.Calls.{Counts, countsOf, logSegments, answerOf, queryOutcome, querySlot, Header, readOutcome, readRows, writeOutcome, writtenBuffer}
 use Rattle.model.specs.Fitting.{FitsFor}
@@ -257,7 +257,7 @@ all-long [] h = tt
 all-long (c ∷ cs) (h, hs) = (long c h, all-long cs hs)
 
 shown : (All Short starred-cases) × (All Short further-cases) × (All Short greatest-cases)
-unfolding horizon sumFrom sumOf listFrom isSome numberAt bytesOf groupCount frameCount spanLength meets adjacent nowhere recordLength recordBytes recordAt recordCount records meeting sum aggregate aggregated value join fuse place framesFrom groupsFrom segmentsOf segmentAt gap lastGap runsTo block empty totalsOf add totals nearest valueFor rowValue squared errorWith blockError rowOf untried plus below exceeds weigh scan single cell least weighed cutsOf rowsOf fewest within firstThat mostRows chosen rowsTried errorOf gapBelow runs leastOf countFor reducedTo reduced slotLength ask outcome each marked askRoom kindKnown boundKnown groupKnown spanQuestions recordQuestions mostRecords logQuestions orderQuestions countsOf outcomeOn
+unfolding horizon sumFrom sumOf every listFrom isSome numberAt bytesOf groupCount frameCount spanLength meets adjacent nowhere recordLength recordBytes recordAt recordCount twins isFirst records meeting sum aggregate aggregated value join fuse place framesFrom groupsFrom segmentsOf segmentAt gap lastGap runsTo block empty totalsOf add totals nearest valueFor rowValue squared errorWith blockError rowOf untried plus below exceeds weigh scan single cell least weighed cutsOf rowsOf fewest within firstThat mostRows chosen rowsTried errorOf gapBelow runs leastOf countFor reducedTo reduced slotLength ask outcome each marked askRoom kindKnown boundKnown groupKnown spanQuestions recordQuestions twinQuestions mostRecords logQuestions orderQuestions countsOf outcomeOn
 shown = (
   ((refl, refl, (refl, refl, tt)), ((refl, refl, (refl, refl, tt)), ((refl, refl, (refl, refl, tt)), ((refl, refl, (refl, refl, tt)), ((refl, refl, (refl, refl, tt)), ((refl, refl, (refl, refl, (refl, refl, tt))), ((refl, refl, (refl, refl, tt)), ((refl, refl, (refl, refl, tt)), ((refl, refl, (refl, refl, tt)), ((refl, refl, (refl, refl, tt)), ((refl, refl, (refl, refl, tt)), ((refl, refl, (refl, refl, tt)), tt)))))))))))),
   ((refl, refl, (refl, refl, tt)), ((refl, refl, (refl, refl, tt)), ((refl, refl, (refl, refl, tt)), ((refl, refl, (refl, refl, tt)), ((refl, refl, (refl, refl, tt)), ((refl, refl, (refl, refl, tt)), ((refl, refl, (refl, refl, tt)), ((refl, refl, (refl, refl, tt)), ((refl, refl, (refl, refl, tt)), ((refl, refl, (refl, refl, (refl, refl, tt))), tt)))))))))),
@@ -273,7 +273,7 @@ worked-cases = (all-long starred-cases (shown .0), all-long further-cases (shown
 pub last-frame : (value 0 (span 0 65535 65535 5 ∷ []) 0 65535 ≡ some 5)
     × (value 0 (span 0 65535 65536 5 ∷ []) 0 65536 ≡ none)
     × (reduced 0 (Rows 1) (span 0 65534 65534 0 ∷ span 0 65535 65535 10 ∷ []) ≡ reduces 50 0 (span 0 65534 65535 5 ∷ []))
-unfolding horizon sumFrom sumOf listFrom isSome numberAt bytesOf groupCount frameCount spanLength meets adjacent nowhere recordLength recordBytes recordAt recordCount records meeting sum aggregate aggregated value join fuse place framesFrom groupsFrom segmentsOf segmentAt gap lastGap runsTo block empty totalsOf add totals nearest valueFor rowValue squared errorWith blockError rowOf untried plus below exceeds weigh scan single cell least weighed cutsOf rowsOf fewest within firstThat mostRows chosen rowsTried errorOf gapBelow runs leastOf countFor reducedTo reduced slotLength ask outcome each marked askRoom kindKnown boundKnown groupKnown spanQuestions recordQuestions mostRecords logQuestions orderQuestions countsOf outcomeOn
+unfolding horizon sumFrom sumOf every listFrom isSome numberAt bytesOf groupCount frameCount spanLength meets adjacent nowhere recordLength recordBytes recordAt recordCount twins isFirst records meeting sum aggregate aggregated value join fuse place framesFrom groupsFrom segmentsOf segmentAt gap lastGap runsTo block empty totalsOf add totals nearest valueFor rowValue squared errorWith blockError rowOf untried plus below exceeds weigh scan single cell least weighed cutsOf rowsOf fewest within firstThat mostRows chosen rowsTried errorOf gapBelow runs leastOf countFor reducedTo reduced slotLength ask outcome each marked askRoom kindKnown boundKnown groupKnown spanQuestions recordQuestions twinQuestions mostRecords logQuestions orderQuestions countsOf outcomeOn
 last-frame = (refl, refl, refl)
 
 -- ---- slots by their bytes
@@ -404,7 +404,7 @@ unfolding querySlot queryQuestions enoughRows answerOf logSegments slotOn
 slot-on q log segs slot e = rw e
 
 written-G : slotOn (query 0 (Rows 4)) (bytes log-G) segments-G (replicate 770 9) ≡ wholeSlot bytes-G ++ (9 ∷ 9 ∷ [])
-unfolding sumFrom sumOf listFrom isSome numberAt bytesOf groupCount frameCount spanLength adjacent nowhere recordLength recordBytes recordAt recordCount records segmentAt gap lastGap runsTo block empty totalsOf add totals nearest valueFor rowValue squared errorWith blockError rowOf untried plus below exceeds weigh scan single cell least weighed cutsOf rowsOf fewest within firstThat mostRows chosen rowsTried errorOf gapBelow runs leastOf countFor reducedTo reduced slotLength ask each marked askRoom kindKnown boundKnown groupKnown spanQuestions recordQuestions mostRecords logQuestions orderQuestions lent rowBytes rowsBytes usedBytes slotBytes slotOn
+unfolding sumFrom sumOf every listFrom isSome numberAt bytesOf groupCount frameCount spanLength adjacent nowhere recordLength recordBytes recordAt recordCount twins isFirst records segmentAt gap lastGap runsTo block empty totalsOf add totals nearest valueFor rowValue squared errorWith blockError rowOf untried plus below exceeds weigh scan single cell least weighed cutsOf rowsOf fewest within firstThat mostRows chosen rowsTried errorOf gapBelow runs leastOf countFor reducedTo reduced slotLength ask each marked askRoom kindKnown boundKnown groupKnown spanQuestions recordQuestions twinQuestions mostRecords logQuestions orderQuestions lent rowBytes rowsBytes usedBytes slotBytes slotOn
 written-G = refl
 
 -- what a query of G with c = 4 leaves in a buffer of 770 bytes: the slot, and the last two bytes as they were

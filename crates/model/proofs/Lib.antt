@@ -2,3 +2,4 @@
 pub mod Page
 pub mod Cases
 pub mod WindowCases
+pub mod TwinCases

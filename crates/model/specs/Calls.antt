@@ -7,13 +7,13 @@ use mathlib.Core.Option.{Option, none, some, Option·getD}
 use lib.Dec.{ltb, eqb}
 use lib.ListN.{length, take, drop, replicate}
 use Rattle.model.specs.Spans.{Span}
-use Rattle.model.specs.Log.{recordLength, recordBytes, records}
+use Rattle.model.specs.Log.{recordLength, recordBytes, records, withoutTwins}
 use Rattle.model.specs.Segments.{segments}
 use Rattle.model.specs.Split.{mostRows, Reduced, reduced}
 use Rattle.model.specs.Windows.{boundIn}
 use Rattle.model.specs.Slot.{slotLength, byBound, byWindows, slotBytes, slotMark, slotKind, slotCount, slotError, slotRow, slotRows, valueIn}
 use Rattle.model.specs.Questions.{Question, ask, askRoom, kindKnown, Outcome, refused, accepted, outcome, lent}
-use Rattle.model.specs.Questions.{writeQuestions, segmentsQuestions, queryQuestions, slotQuestions, lookupQuestions}
+use Rattle.model.specs.Questions.{writeQuestions, withoutTwinsQuestions, segmentsQuestions, queryQuestions, slotQuestions, lookupQuestions}
 use Rattle.model.specs.Questions.{mostScenes, withBound, windowRows, ruledQuestions}
 use Rattle.model.specs.declared.Record.{Record}
 use Rattle.model.specs.declared.Segment.{Segment}
@@ -28,6 +28,8 @@ use Rattle.model.specs.declared.Asked.{Asked}
 use Rattle.model.specs.declared.Asked.the-variants as asked
 use Rattle.model.specs.declared.RecordAnswer.{RecordAnswer}
 use Rattle.model.specs.declared.RecordAnswer.the-variants as record-answer
+use Rattle.model.specs.declared.LogAnswer.{LogAnswer}
+use Rattle.model.specs.declared.LogAnswer.the-variants as log-answer
 use Rattle.model.specs.declared.SegmentsAnswer.{SegmentsAnswer}
 use Rattle.model.specs.declared.SegmentsAnswer.the-variants as segments-answer
 use Rattle.model.specs.declared.QueryAnswer.{QueryAnswer}
@@ -69,6 +71,19 @@ writeOutcome r room = outcome (writeQuestions r room) tt
 
 unfoldable pub writtenBuffer : Span ℕ → List ℕ → List ℕ
 writtenBuffer r buffer = lent (writeQuestions r (length buffer)) (recordBytes r ++ drop recordLength buffer) buffer
+
+-- The call for logs on file: the number of bytes written.
+
+unfoldable pub logCase : LogAnswer → Outcome ℕ
+logCase (log-answer.Written n) = accepted n
+logCase (log-answer.Refused r) = refused (r .question) (r .index)
+
+unfoldable pub withoutTwinsOutcome : List ℕ → ℕ → Outcome ℕ
+withoutTwinsOutcome log room = outcome (withoutTwinsQuestions log room) (length (withoutTwins log))
+
+unfoldable pub withoutTwinsBuffer : List ℕ → List ℕ → List ℕ
+withoutTwinsBuffer log buffer =
+    lent (withoutTwinsQuestions log (length buffer)) (withoutTwins log ++ drop (length (withoutTwins log)) buffer) buffer
 
 -- The segment call: the number of segments.
 

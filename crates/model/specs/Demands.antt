@@ -10,16 +10,16 @@ use lib.IntN.{ℤ, pos}
 use lib.ListN.{length, getD, take}
 use Rattle.model.specs.Common.{sumOf}
 use Rattle.model.specs.Spans.{Span, groupCount, frameCount, spanLength, meets, adjacent}
-use Rattle.model.specs.Log.{records, meeting, sum, greatestKind, aggregated, value}
+use Rattle.model.specs.Log.{recordLength, recordAt, recordCount, records, recordPart, withoutTwins, meeting, sum, greatestKind, aggregated, value}
 use Rattle.model.specs.Blocks.{segmentAt, gap, totals, rowValue, errorWith, blockError}
 use Rattle.model.specs.Split.{Reduced, errorOf, gapBelow, runs, rowsOf, mostRows}
 use Rattle.model.specs.Reductions.{IsReduction, Merges, IsAnswer, reductionError}
 use Rattle.model.specs.Windows.{boundIn}
 use Rattle.model.specs.Slot.{slotLength, byBound, byWindows, slotBytes, valueIn}
 use Rattle.model.specs.Questions.{Question, Outcome, refused, accepted, kindKnown, boundKnown, rowKnown, follows}
-use Rattle.model.specs.Questions.{logQuestions, orderQuestions, writeQuestions, segmentsQuestions, queryQuestions, slotQuestions, lookupQuestions, mostSegments}
+use Rattle.model.specs.Questions.{fileQuestions, logQuestions, withoutTwinsQuestions, orderQuestions, writeQuestions, segmentsQuestions, queryQuestions, slotQuestions, lookupQuestions, mostSegments}
 use Rattle.model.specs.Questions.{ruleQuestion, withBound, windowRows, ruledOrder, ruledQuestions}
-use Rattle.model.specs.Calls.{Counts, Header, writeOutcome, writtenBuffer, segmentsOutcome, filledList, logSegments, queryOutcome, querySlot, answerOf, countsOf, readOutcome, readRows, readListQuestions, readListOutcome, readList, stepOutcome, stepNext, lookupOutcome}
+use Rattle.model.specs.Calls.{Counts, Header, writeOutcome, writtenBuffer, withoutTwinsOutcome, withoutTwinsBuffer, segmentsOutcome, filledList, logSegments, queryOutcome, querySlot, answerOf, countsOf, readOutcome, readRows, readListQuestions, readListOutcome, readList, stepOutcome, stepNext, lookupOutcome}
 use Rattle.model.specs.Calls.{ruledOutcome, ruledSlot, beatQuery}
 use Rattle.model.specs.Calls.{cutsWeighed, queryWeighed, boundOf, byLetterQuestions, letterOutcome, letterSlot, letterWeighed}
 use Rattle.model.specs.LowerHalves.{lowerValue, lowerError, lowerErrorOf, lowerAnswer, lowerOutcome}
@@ -58,6 +58,9 @@ pub record Asks {A B : Type 0} (questions : List Question) (says : Outcome A) (w
 pub record Demand1 : Type 0 where
   pub write : (r : Span ℕ) (buffer : List ℕ)
       → Asks (writeQuestions r (length buffer)) (writeOutcome r (length buffer)) buffer (writtenBuffer r buffer)
+  pub withoutTwins : (log buffer : List ℕ)
+      → Asks (withoutTwinsQuestions log (length buffer)) (withoutTwinsOutcome log (length buffer)) buffer
+      (withoutTwinsBuffer log buffer)
   pub segments : (kind : ℕ) (log : List ℕ) (list : List Segment)
       → Asks (segmentsQuestions kind log (length list)) (segmentsOutcome kind log (length list)) list
       (filledList kind log list)
@@ -207,6 +210,42 @@ pub record Demand2 : Type 0 where
   pub frameByFrame : (kind start : ℕ) (log : List ℕ) (g f : ℕ) → start ≤ f
       → valueIn (windowRows (beatQuery kind 1 start) log) g f ≡ value kind (records log) g f
 
+-- Twin records: no log that is accepted holds a record twice, and what is written of a log on file.
+
+-- no two records of a log have the same nine bytes
+abbrev pub Distinct : List ℕ → Type 0
+Distinct log = (i j : ℕ) → i < j → j < recordCount log → recordPart log i ≡ recordPart log j → ⊥
+
+-- these nine bytes appear in a log first as the record with index i
+pub record FirstAt (log part : List ℕ) (i : ℕ) : Type 0 where
+  pub inside : i < recordCount log
+  pub same : recordPart log i ≡ part
+  pub notBefore : (j : ℕ) → j < i → recordPart log j ≡ part → ⊥
+
+-- whole records, no two of them equal: every record of the log and no other, in the order in which they first appear in it
+pub record EachOnce (log out : List ℕ) : Type 0 where
+  pub whole : length out ≡ recordLength * recordCount out
+  pub once : Distinct out
+  pub all : (i : ℕ) → i < recordCount log → (k : ℕ) × (k < recordCount out) × (recordPart out k ≡ recordPart log i)
+  pub only : (k : ℕ) → k < recordCount out → (i : ℕ) × FirstAt log (recordPart out k) i
+  pub inOrder : (k l i j : ℕ) → k < l → l < recordCount out → FirstAt log (recordPart out k) i
+      → FirstAt log (recordPart out l) j → i < j
+
+pub record TwinRecords : Type 0 where
+  -- a log passes its questions exactly where it passes those of a log on file and no two of its records are equal
+  pub exactly : (log : List ℕ) → AllPass (logQuestions log) ↔ (AllPass (fileQuestions log) × Distinct log)
+  -- so that no two of the records are equal that the values of its frames are made of
+  pub noneTwice : (log : List ℕ) → Bytes log → AllPass (logQuestions log) → (i j : ℕ) → i < j → j < recordCount log
+      → recordAt log (recordLength * i) ≡ recordAt log (recordLength * j) → ⊥
+  -- what is written of a log on file holds each of its records once, in the order of first appearance, and nothing else does
+  pub eachOnce : (log out : List ℕ) → EachOnce log out ↔ (out ≡ withoutTwins log)
+  -- it passes every question of a log
+  pub passes : (log : List ℕ) → AllPass (fileQuestions log) → AllPass (logQuestions (withoutTwins log))
+  -- whole records no two of which are equal come out byte for byte
+  pub unchanged : (log : List ℕ) → length log ≡ recordLength * recordCount log → Distinct log → withoutTwins log ≡ log
+  -- twice is once
+  pub twice : (log : List ℕ) → withoutTwins (withoutTwins log) ≡ withoutTwins log
+
 -- Halves go up: what the upper number at a half changes, and what comes out equal. What was before is in `LowerHalves`.
 
 -- the mean of a block's values lies half way between k and k + 1
@@ -293,6 +332,12 @@ pub record Demand3 : Type 0 where
       → (L : ℕ) × LeastOfFewest (listsFor kind log) L × ((M : ℕ) → LeastOfFewest (listsFor kind log) M → M ≡ L)
 
 -- What a call promises beyond the equations for its answer and its slot.
+
+-- a call for logs on file that answers so and leaves this buffer: where it is accepted, the bytes that it says it wrote hold each
+-- record of the log once, and pass every question of a log
+pub record FilePromise (log : List ℕ) (says : Outcome ℕ) (after : List ℕ) : Type 0 where
+  pub eachOnce : (n : ℕ) → says ≡ accepted n → EachOnce log (take n after)
+  pub passes : (n : ℕ) → says ≡ accepted n → AllPass (logQuestions (take n after))
 
 -- a query that answers so and leaves this slot: its number of cuts weighed; best rows where it is accepted, and for kind 3 none
 -- that falls short; 'too few rows' where no rows do, and there alone

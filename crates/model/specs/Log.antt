@@ -1,11 +1,11 @@
 -- From bytes to records, and from records to the values of frames.
 use Prim.Native.Nat.{ℕ, zero, suc, _+_, _*_, _/_, min, max}
-use mathlib.Core.Bool.{_&&_, cond}
+use mathlib.Core.Bool.{Bool, _&&_, not, cond}
 use mathlib.Core.List.{List, [], _∷_, _++_, foldr}
 use mathlib.Core.Option.{Option, none, some}
-use lib.Dec.{ltb}
-use lib.ListN.{length, getD}
-use Rattle.model.specs.Common.{listFrom, numberAt, bytesOf}
+use lib.Dec.{ltb, eqb}
+use lib.ListN.{length, getD, take, drop}
+use Rattle.model.specs.Common.{listFrom, every, joined, numberAt, bytesOf}
 use Rattle.model.specs.Spans.{Span, groupCount, frameCount, meets}
 
 -- a record is 9 bytes: the mark 4C 44, group, first frame, last frame and load
@@ -31,6 +31,26 @@ recordCount log = length log / recordLength
 -- the records of a log, each with its load as value
 unfoldable pub records : List ℕ → List (Span ℕ)
 records log = listFrom 0 (recordCount log) (λ i. recordAt log (recordLength * i))
+
+-- the nine bytes of the record with index i
+unfoldable pub recordPart : List ℕ → ℕ → List ℕ
+recordPart log i = take recordLength (drop (recordLength * i) log)
+
+-- the records with index i and j have the same nine bytes
+unfoldable pub twins : List ℕ → ℕ → ℕ → Bool
+twins log i j = every (λ k. eqb (getD log (recordLength * i + k) 0) (getD log (recordLength * j + k) 0)) 0 recordLength
+
+-- no earlier record has the same nine bytes as the one with index i
+unfoldable pub isFirst : List ℕ → ℕ → Bool
+isFirst log i = every (λ j. not (twins log j i)) 0 i
+
+-- of `count` records the first of equal ones and the others, in their order, by their indices
+unfoldable pub firstsOf : List ℕ → ℕ → List ℕ
+firstsOf log count = joined (λ i. cond (isFirst log i) (i ∷ []) []) (listFrom 0 count (λ i. i))
+
+-- a log with the first of equal records and the others in their order
+unfoldable pub withoutTwins : List ℕ → List ℕ
+withoutTwins log = joined (recordPart log) (firstsOf log (recordCount log))
 
 -- the loads of the records of group g that contain some frame of a to b
 unfoldable pub meeting : List (Span ℕ) → ℕ → ℕ → ℕ → List ℕ

@@ -7,7 +7,7 @@ use lib.Dec.{leb, ltb, eqb}
 use lib.ListN.{length, getD}
 use Rattle.model.specs.Common.{every, isSome}
 use Rattle.model.specs.Spans.{Span, frameCount}
-use Rattle.model.specs.Log.{recordLength, recordAt, recordCount, records}
+use Rattle.model.specs.Log.{recordLength, recordAt, recordCount, records, isFirst}
 use Rattle.model.specs.Segments.{segments}
 use Rattle.model.specs.Split.{mostRows, countFor}
 use Rattle.model.specs.Windows.{boundIn, windows, spanRows}
@@ -79,12 +79,28 @@ recordQuestions log i =
 unfoldable pub mostRecords : ℕ
 mostRecords = 128
 
--- 4 to 9
-unfoldable pub logQuestions : List ℕ → List Question
-logQuestions log =
+-- 4 and 5, and then what each record is asked
+abbrev pub withRecords : (ℕ → List Question) → List ℕ → List Question
+withRecords questions log =
     ask 4 0 (eqb (length log % recordLength) 0)
     ∷ ask 5 0 (leb (recordCount log) mostRecords)
-    ∷ each (recordQuestions log) 0 (recordCount log)
+    ∷ each questions 0 (recordCount log)
+
+-- 4 to 9: all that a log on file is asked
+unfoldable pub fileQuestions : List ℕ → List Question
+fileQuestions log = withRecords (recordQuestions log) log
+
+-- 21, of the record with index i: has no earlier record the same nine bytes?
+unfoldable pub twinQuestions : List ℕ → ℕ → List Question
+twinQuestions log i = ask 21 i (isFirst log i) ∷ []
+
+-- 4 to 9 and 21
+unfoldable pub logQuestions : List ℕ → List Question
+logQuestions log = withRecords (λ i. recordQuestions log i ++ twinQuestions log i) log
+
+-- 1, of a buffer as long as the log, and 4 to 9: those of the call for logs on file
+unfoldable pub withoutTwinsQuestions : List ℕ → ℕ → List Question
+withoutTwinsQuestions log room = askRoom (length log) room ∷ fileQuestions log
 
 -- those that a query and a log are asked ahead of 10
 unfoldable pub orderQuestions : Query → List ℕ → List Question

@@ -133,6 +133,12 @@ pub enum RecordAnswer {
     Refused(Refusal),
 }
 
+// The answer of a call that writes a log: how many bytes it has written.
+pub enum LogAnswer {
+    Written(usize),
+    Refused(Refusal),
+}
+
 // The answer of the segment call: how many segments there are.
 pub enum SegmentsAnswer {
     Found(usize),

@@ -1,6 +1,7 @@
 // The tool's calls. Each answers every input, says by equation with the definitions what it answers and what the places
 // lent to it hold afterwards, and a query promises the third demand besides: its rows are best.
 use model::Bound;
+use model::LogAnswer;
 use model::LookupAnswer;
 use model::MOST_KIND;
 use model::Query;
@@ -27,12 +28,12 @@ ghost use Prim.Native.Nat.{_≤_};
 ghost use lib.ListN.{length, drop};
 ghost use Rattle.model.specs.Windows.{boundIn};
 ghost use Rattle.model.specs.Questions.{outcome, accepted};
-ghost use Rattle.model.specs.Calls.{recordSpan, recordCase, writeOutcome, writtenBuffer};
+ghost use Rattle.model.specs.Calls.{recordSpan, recordCase, writeOutcome, writtenBuffer, logCase, withoutTwinsOutcome, withoutTwinsBuffer};
 ghost use Rattle.model.specs.Calls.{Counts, queryCase, queryOutcome, querySlot, letterQuestions, letterOutcome, letterSlot};
 ghost use Rattle.model.specs.Calls.{ruledOutcome, ruledSlot, beatQuery, sceneQuery};
 ghost use Rattle.model.specs.Calls.{readCase, readOutcome, readRows, stepCase, stepOutcome, stepNext, lookupCase, lookupOutcome};
 ghost use Rattle.model.specs.Arrays.{rowArray};
-ghost use Rattle.model.specs.Demands.{QueryPromise, RuledPromise, LetterPromise};
+ghost use Rattle.model.specs.Demands.{FilePromise, QueryPromise, RuledPromise, LetterPromise};
 ghost use Rattle.preparing.specs.Prepared.{writes};
 ghost use Rattle.pacer.specs.Promises.{BestReading, noCounts};
 
@@ -48,6 +49,16 @@ pub fn write_record(record: Record, buffer: &mut [u8]) -> RecordAnswer
     ensures holds { λ _. ⌜ now (buffer .exit) ≡ writtenBuffer (recordSpan «record») (now (buffer .entry)) ⌝ }
 {
     log::write_record(record, buffer)
+}
+
+// Writes a log on file to the front of a buffer, with the first of equal records and the others in their order, or tells which
+// question refused it and writes nothing.
+pub fn without_twins(log: &[u8], buffer: &mut [u8]) -> LogAnswer
+    ensures says { λ r. ⌜ logCase r ≡ withoutTwinsOutcome (now (log .entry)) (length (now (buffer .entry))) ⌝ }
+    ensures holds { λ _. ⌜ now (buffer .exit) ≡ withoutTwinsBuffer (now (log .entry)) (now (buffer .entry)) ⌝ }
+    ensures promise { λ r. ⌜ FilePromise (now (log .entry)) (logCase r) (now (buffer .exit)) ⌝ }
+{
+    log::without_twins(log, buffer)
 }
 
 // Answers a query about a log: writes the best rows, or those of its windows, into the slot, or tells which question refused it and

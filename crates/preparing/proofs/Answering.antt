@@ -6,7 +6,7 @@ use mathlib.Core.Bool.{true}
 use mathlib.Core.List.{List, [], _∷_, _++_}
 use mathlib.Core.Option.{Option, none, some}
 use mathlib.Core.Path.{_≡_, refl, sym, ap, _∙_}
-use native.Mathlib.Nat.{le-refl, zero-add}
+use native.Mathlib.Nat.{zero-add}
 use native.Mathlib.Omega.{arith}
 use borrow.Author.Tests.{leb-true, le-leb, lt-leb}
 use lib.Dec.{leb}
@@ -29,7 +29,6 @@ use Rattle.model.specs.declared.Refusal.{Refusal}
 use Rattle.model.specs.declared.QueryAnswer.the-variants.{Refused}
 use Rattle.theory.proofs.Tests.{none≢some, some-inj, cases}
 use Rattle.theory.proofs.Refusals.{all-tail, all-lent, outcome-accepted, outcome-behind, refused-lent, refused-first}
-use Rattle.theory.proofs.Guarantee.{limitOf}
 use Rattle.theory.proofs.SlotLaws.{listFrom-of}
 use Rattle.log.proofs.Columns.{map-at}
 use Rattle.choice.specs.Bounds.{Known}
@@ -45,11 +44,6 @@ pub known-bound : (bound : Bound) → boundKnown bound ≡ true → Known bound
 unfolding boundKnown Known mostRows
 known-bound (Rows c) h = leb-true c 64 h
 known-bound (Share p) h = leb-true p 1000 h
-
-pub limit-le : (bound : Bound) → boundKnown bound ≡ true → limitOf bound ≤ 64
-unfolding boundKnown mostRows
-limit-le (Rows c) h = leb-true c 64 h
-limit-le (Share p) h = le-refl 64
 
 -- ---- an array of rows
 

@@ -1,9 +1,8 @@
 -- Scenes one after the other. Assumes nothing.
-use Prim.Native.Nat.{ℕ, zero, suc, _+_, _-_, _≤_, _<_}
-use mathlib.Core.Bool.{Bool, _&&_, and-assoc, and-true}
+use Prim.Native.Nat.{ℕ, zero, suc, _-_, _≤_}
+use mathlib.Core.Bool.{Bool, _&&_, and-true}
 use mathlib.Core.List.{List}
-use mathlib.Core.Path.{_≡_, refl, sym, ap, _∙_}
-use native.Mathlib.Numerals.{add-one}
+use mathlib.Core.Path.{_≡_, refl, sym, _∙_}
 use native.Mathlib.Omega.{arith}
 use lib.Dec.{leb, ltb}
 use lib.ListN.{getD}
@@ -11,7 +10,6 @@ use borrow.Author.Tests.{le-leb}
 use Rattle.model.specs.Common.{every}
 use Rattle.model.specs.Spans.{frameCount}
 use Rattle.model.specs.Questions.{sceneFollows, sceneKnown, mostScenes, scenesKnown}
-use Rattle.theory.proofs.Lists.{one-more, none-left}
 
 -- ---- one scene after the other
 
@@ -29,21 +27,6 @@ module _ (firsts lasts : List ℕ) where
   unfolding sceneKnown sceneFollows
   later-scene zero known some-before e = absurd (some-before refl)
   later-scene (suc i) known some-before e = let before : suc i - 1 ≡ i = omega arith in rw (e, before)
-
--- the numbers left pass a test
-module _ (test : ℕ → Bool) (i count : ℕ) where
-  pub every-more : (so-far now : Bool) → i < count → now ≡ test i
-      → so-far && now && every test (i + 1) (count - (i + 1)) ≡ so-far && every test i (count - i)
-  unfolding every
-  every-more so-far now lt e =
-      rw (add-one i, e)
-      (and-assoc so-far (test i) (every test (suc i) (count - suc i))
-      ∙ ap (λ (b : Bool). so-far && b) (sym (one-more (every test i) i count lt)))
-
-  pub every-done : (so-far : Bool) → count ≤ i → so-far ≡ so-far && every test i (count - i)
-  unfolding every
-  every-done so-far past =
-      sym (and-true so-far) ∙ ap (λ (b : Bool). so-far && b) (sym (none-left (every test i) i count past))
 
 pub some-scenes : (firsts lasts : List ℕ) (count : ℕ) → (count ≡ 0 → ⊥) → count ≤ 16
     → every (sceneKnown firsts lasts) 0 count ≡ scenesKnown firsts lasts count

@@ -22,13 +22,14 @@ use Rattle.model.specs.Blocks.{segmentAt, block, Totals, empty, totalsOf, add, 
 use Rattle.model.specs.Split.{errorOf}
 use Rattle.model.specs.Reductions.{IsReduction, reductionError}
 use Rattle.model.specs.Fitting.{overFrames}
-use Rattle.model.specs.Questions.{ask, groupKnown, spanQuestions, recordQuestions, logQuestions, mostRecords, mostValue, mostSegments}
+use Rattle.model.specs.Questions.{ask, groupKnown, spanQuestions, recordQuestions, fileQuestions, logQuestions, mostRecords, mostValue, mostSegments}
 use Rattle.model.specs.Calls.{logSegments}
 use Rattle.model.specs.Room.{mostFrames, mostError, Room, Block, Measured}
 use Rattle.model.specs.Demands.{AllPass, MeanInHundredths}
 use Rattle.theory.proofs.Tests.{cases}
 use Rattle.theory.proofs.Sums.{sumFrom-const, sumOf-cong, sumOf-append, overFrames-le}
 use Rattle.theory.proofs.Refusals.{all-head, all-tail, all-at}
+use Rattle.theory.proofs.Asking.{file-passed}
 use Rattle.theory.proofs.SlotLaws.{listFrom-of, length-listFrom}
 use Rattle.theory.proofs.Frames.{worth, segments-weigh, segmentation}
 use Rattle.theory.proofs.Count.{segment-count}
@@ -57,9 +58,9 @@ sound-record log i all =
 pub sound-records : (log : List ℕ) → AllPass (logQuestions log)
     → (length (records log) ≤ mostRecords)
     × ((r : Span ℕ) → List·Memᴰ r (records log) → (r .group ≤ 7) × (r .first ≤ r .last) × (r .value ≤ 1000))
-unfolding logQuestions records ask
+unfolding fileQuestions records ask
 sound-records log all =
-    let rest = all-tail _ _ all in (
+    let rest = all-tail _ _ (file-passed log all) in (
       rw (length-listFrom 0 (recordCount log) (λ i. recordAt log (recordLength * i)))
           (leb-true (recordCount log) mostRecords (all-head _ _ rest)),
       λ r m.

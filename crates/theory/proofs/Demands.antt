@@ -99,7 +99,7 @@ fitting : {A : Type 0} (choices : Choices A) (bound : Bound) (error : ℕ) (a : 
 fitting choices (Rows c) error a b = b .fits
 fitting choices (Share p) error a b = b .fits
 
-limit-le : (bound : Bound) → boundKnown bound ≡ true → limitOf bound ≤ mostRows
+pub limit-le : (bound : Bound) → boundKnown bound ≡ true → limitOf bound ≤ mostRows
 unfolding boundKnown
 limit-le (Rows c) h = leb-true c mostRows h
 limit-le (Share p) h = le-refl mostRows

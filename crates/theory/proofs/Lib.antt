@@ -15,6 +15,7 @@ pub mod Choice
 pub mod Merging
 pub mod Converse
 pub mod Lists
+pub mod Every
 pub mod Asking
 pub mod Exchange
 pub mod Labels
@@ -23,6 +24,7 @@ pub mod Bounds
 pub mod Stored
 pub mod Windows
 pub mod Ruled
+pub mod Twins
 pub mod Guarantee
 pub mod Answer
 pub mod Halves
@@ -36,3 +38,4 @@ pub mod RefutedHalves
 pub mod RefutedReductions
 pub mod RefutedCalls
 pub mod RefutedWindows
+pub mod RefutedTwins

@@ -13,8 +13,8 @@ use borrow.Author.Tests.{le-leb, leb-true, eqb-true, eqb-false}
 use lib.ListN.{length}
 use Rattle.model.specs.Slot.{slotLength}
 use Rattle.model.specs.Questions.{Question, Outcome, refused, accepted, ask, askRoom, outcome, lent, each, enoughRows}
-use Rattle.model.specs.Questions.{ruledQuestions, orderQuestions, writeQuestions, segmentsQuestions, queryQuestions, slotQuestions}
-use Rattle.model.specs.Calls.{Counts, writeOutcome, writtenBuffer, segmentsOutcome, filledList, queryOutcome, querySlot, answerOf, countsOf, readOutcome, readListQuestions, readListOutcome, readList, stepOutcome, stepNext, lookupOutcome}
+use Rattle.model.specs.Questions.{ruledQuestions, orderQuestions, writeQuestions, withoutTwinsQuestions, segmentsQuestions, queryQuestions, slotQuestions}
+use Rattle.model.specs.Calls.{Counts, writeOutcome, writtenBuffer, withoutTwinsOutcome, withoutTwinsBuffer, segmentsOutcome, filledList, queryOutcome, querySlot, answerOf, countsOf, readOutcome, readListQuestions, readListOutcome, readList, stepOutcome, stepNext, lookupOutcome}
 use Rattle.model.specs.Calls.{ruledOutcome, ruledSlot, boundOf, byLetterQuestions, letterOutcome, letterSlot}
 use Rattle.model.specs.Demands.{AllPass, FirstNo, Asks, Demand1}
 use Rattle.model.specs.declared.Bound.{Bound}
@@ -233,10 +233,11 @@ letter-asks kind letter x log slot = by (boundOf letter x) refl
 
 -- the first demand
 pub demand1 : Demand1
-unfolding writeOutcome writtenBuffer segmentsOutcome filledList queryOutcome querySlot ruledOutcome ruledSlot readOutcome readListOutcome readList stepOutcome stepNext lookupOutcome
+unfolding writeOutcome writtenBuffer withoutTwinsOutcome withoutTwinsBuffer segmentsOutcome filledList queryOutcome querySlot ruledOutcome ruledSlot readOutcome readListOutcome readList stepOutcome stepNext lookupOutcome
 demand1 =
     record {
       write = λ r buffer. asks _ _ _ _ (λ n i. refused-lent (writeQuestions r (length buffer)) _ n i _ _);
+      withoutTwins = λ log buffer. asks _ _ _ _ (λ n i. refused-lent (withoutTwinsQuestions log (length buffer)) _ n i _ _);
       segments = λ kind log list. asks _ _ _ _ (λ n i. refused-lent (segmentsQuestions kind log (length list)) _ n i _ _);
       query = λ q log slot. asks _ _ _ _ (λ n i. refused-lent (queryQuestions q log (length slot)) _ n i _ _);
       ruled = λ q log slot. asks _ _ _ _ (λ n i. refused-lent (ruledQuestions q log (length slot)) _ n i _ _);

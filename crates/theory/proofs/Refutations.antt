@@ -11,13 +11,13 @@ use native.Mathlib.Omega.{arith}
 use lib.Dec.{leb}
 use lib.IntN.{ℤ}
 use lib.ListN.{length, replicate}
-use Rattle.model.specs.Common.{sumFrom, listFrom, numberAt, bytesOf}
+use Rattle.model.specs.Common.{sumFrom, listFrom, every, numberAt, bytesOf}
 use Rattle.model.specs.Spans.{Span, groupCount, frameCount, meets, holds}
-use Rattle.model.specs.Log.{recordLength, recordBytes, recordAt, recordCount, records, meeting, sum, aggregate, aggregated, value}
+use Rattle.model.specs.Log.{recordLength, recordBytes, recordAt, recordCount, twins, isFirst, records, meeting, sum, aggregate, aggregated, value}
 use Rattle.model.specs.Blocks.{segmentAt, squared}
 use Rattle.model.specs.Split.{Reduced, mostRows, reduced}
 use Rattle.model.specs.Slot.{slotLength, byBound, byWindows, rowBytes, rowsBytes, usedBytes, slotBytes, rowPlace, slotMark, slotKind, slotCount, slotError, slotRow, slotRows, valueIn}
-use Rattle.model.specs.Questions.{refused, accepted, ask, askRoom, outcome, each, marked, kindKnown, boundKnown, groupKnown, mostRecords, spanQuestions, recordQuestions, logQuestions, orderQuestions}
+use Rattle.model.specs.Questions.{refused, accepted, ask, askRoom, outcome, each, marked, kindKnown, boundKnown, groupKnown, mostRecords, spanQuestions, recordQuestions, twinQuestions, logQuestions, orderQuestions}
 use Rattle.model.specs.Questions.{lent, follows, inOrder, rowKnown, rowQuestions, zeros, tailZero, errorKnown, headerMarked, slotQuestions}
 use Rattle.model.specs.Calls.{Counts, logSegments, answerOf, countsOf, queryOutcome, cutsWeighed, queryWeighed, boundOf, letterWeighed, Header, readOutcome, readRows}
 use Rattle.model.specs.Guarantee.{Choices, LeastOfFewest, WithinShare, Exceeds, BestOfLimit, BestOfShare, BestRows, NoRows}
@@ -111,7 +111,7 @@ module _ (kind : ℕ) where
   -- a query of G is in order
   pub in-order : (bound : Bound) → kindKnown kind ≡ true → boundKnown bound ≡ true
       → AllPass (orderQuestions (query kind bound) (bytes log-G))
-  unfolding orderQuestions logQuestions recordCount recordLength mostRecords each recordQuestions spanQuestions marked groupKnown recordAt numberAt recordBytes bytesOf ask outcome
+  unfolding orderQuestions logQuestions recordCount twins isFirst recordLength mostRecords each recordQuestions twinQuestions spanQuestions marked groupKnown recordAt every numberAt recordBytes bytesOf ask outcome
   in-order bound known in-range =
       outcome-accepted (orderQuestions (query kind bound) (bytes log-G)) (tt {0}) (tt {0}) (rw (known, in-range)) .0
 

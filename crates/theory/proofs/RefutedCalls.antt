@@ -29,7 +29,7 @@ use Rattle.theory.proofs.RefutedReductions.{bytesOnly, bytes-only}
 -- ---- the first question that is answered 'no'
 
 -- equal refusals have the same number and the same index
-refused-number : {A : Type 0} {n i n′ i′ : ℕ} → _≡_ {A = Outcome A} (refused n i) (refused n′ i′) → (n ≡ n′) × (i ≡ i′)
+pub refused-number : {A : Type 0} {n i n′ i′ : ℕ} → _≡_ {A = Outcome A} (refused n i) (refused n′ i′) → (n ≡ n′) × (i ≡ i′)
 refused-number e = (cc, cc)
 
 -- none of the questions (parts), one that is passed (denied), one after another 'no' (passed), another number (numbered),

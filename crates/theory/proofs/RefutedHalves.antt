@@ -9,14 +9,14 @@ use native.Mathlib.Omega.{arith}
 use lib.IntN.{pos}
 use lib.ListN.{length}
 use borrow.Author.Tests.{ne-eqb}
-use Rattle.model.specs.Common.{sumFrom, sumOf, listFrom, isSome, numberAt, bytesOf}
+use Rattle.model.specs.Common.{sumFrom, sumOf, listFrom, every, isSome, numberAt, bytesOf}
 use Rattle.model.specs.Spans.{Span, spanLength, adjacent, nowhere}
-use Rattle.model.specs.Log.{recordLength, recordBytes, recordAt, recordCount, greatestKind}
+use Rattle.model.specs.Log.{recordLength, recordBytes, recordAt, recordCount, twins, isFirst, greatestKind}
 use Rattle.model.specs.Blocks.{segmentAt, gap, lastGap, runsTo, block, empty, totalsOf, add, totals, rowValue, squared, errorWith, blockError, rowOf}
 use Rattle.model.specs.Split.{untried, plus, below, exceeds, weigh, scan, single, cell, least, weighed, cutsOf, rowsOf, fewest, chosen, rowsTried, Reduced, mostRows, gapBelow, runs}
 use Rattle.model.specs.Reductions.{IsReduction, reductionError}
 use Rattle.model.specs.Slot.{slotLength, byBound, slotBytes}
-use Rattle.model.specs.Questions.{Outcome, refused, accepted, ask, outcome, each, marked, askRoom, kindKnown, boundKnown, groupKnown, spanQuestions, recordQuestions, mostRecords, logQuestions, orderQuestions}
+use Rattle.model.specs.Questions.{Outcome, refused, accepted, ask, outcome, each, marked, askRoom, kindKnown, boundKnown, groupKnown, spanQuestions, recordQuestions, twinQuestions, mostRecords, logQuestions, orderQuestions}
 use Rattle.model.specs.Calls.{Counts, logSegments, countsOf, queryOutcome, readOutcome}
 use Rattle.model.specs.LowerHalves.{lowerNearest, lowerValue, lowerError, lowerErrorOf, lowerLeastOf, lowerCountFor, lowerReducedTo, lowerReduced, lowerAnswer, lowerOutcome}
 use Rattle.model.specs.Demands.{AllPass, HalfAbove, AllRisen, Cut, LowerCut}
@@ -86,7 +86,7 @@ abbrev asked : ℕ → ℕ → Outcome Counts
 asked error weighed = accepted (record { rows = 1; error = error; weighed = weighed })
 
 lower-says : lowerOutcome (query 0 (Rows 1)) (bytes loads) 768 ≡ asked 1 0
-unfolding sumFrom sumOf listFrom isSome numberAt bytesOf spanLength adjacent nowhere recordLength recordBytes recordAt recordCount segmentAt gap lastGap runsTo block empty totalsOf add totals squared errorWith rowOf untried plus below exceeds weigh scan single cell least weighed cutsOf rowsOf fewest chosen rowsTried mostRows gapBelow runs slotLength ask outcome each marked askRoom kindKnown boundKnown groupKnown spanQuestions recordQuestions mostRecords logQuestions orderQuestions countsOf lowerNearest lowerValue lowerError lowerErrorOf lowerLeastOf lowerCountFor lowerReducedTo lowerReduced lowerAnswer lowerOutcome
+unfolding sumFrom sumOf every listFrom isSome numberAt bytesOf spanLength adjacent nowhere recordLength recordBytes recordAt recordCount twins isFirst segmentAt gap lastGap runsTo block empty totalsOf add totals squared errorWith rowOf untried plus below exceeds weigh scan single cell least weighed cutsOf rowsOf fewest chosen rowsTried mostRows gapBelow runs slotLength ask outcome each marked askRoom kindKnown boundKnown groupKnown spanQuestions recordQuestions twinQuestions mostRecords logQuestions orderQuestions countsOf lowerNearest lowerValue lowerError lowerErrorOf lowerLeastOf lowerCountFor lowerReducedTo lowerReduced lowerAnswer lowerOutcome
 lower-says = rw (worked-cases .1 .1 .0 .0)
 
 says-now : {o : Outcome Counts} → queryOutcome (query 0 (Rows 1)) (bytes loads) 768 ≡ o → asked 1 0 ≡ o
@@ -156,7 +156,7 @@ unfolding rowsOf rowOf lowerErrorOf reductionError lowerError errorWith lowerVal
 earlier-cut = (record { rows = refl; error = refl }, (omega arith, omega arith, refl))
 
 earlier-logged : AllPass (logQuestions (bytes loads))
-unfolding logQuestions recordCount recordLength mostRecords each recordQuestions spanQuestions marked groupKnown recordAt numberAt recordBytes bytesOf ask outcome
+unfolding logQuestions recordCount twins isFirst recordLength mostRecords each recordQuestions twinQuestions spanQuestions marked groupKnown recordAt every numberAt recordBytes bytesOf ask outcome
 earlier-logged = outcome-accepted (logQuestions (bytes loads)) (tt {0}) (tt {0}) refl .0
 
 -- refused, whatever stands behind it: of a kind by which these loads are the segments (stillRead)

@@ -7,12 +7,12 @@ use native.Mathlib.Omega.{arith}
 use lib.ListN.{length, replicate}
 use Rattle.model.specs.Common.{listFrom, every, joined, numberAt, bytesOf}
 use Rattle.model.specs.Spans.{Span, groupCount, frameCount, meets}
-use Rattle.model.specs.Log.{recordLength, recordBytes, recordAt, recordCount, records, meeting, sum, aggregate, aggregated, value}
+use Rattle.model.specs.Log.{recordLength, recordBytes, recordAt, recordCount, twins, isFirst, records, meeting, sum, aggregate, aggregated, value}
 use Rattle.model.specs.Blocks.{segmentAt}
 use Rattle.model.specs.Split.{mostRows}
 use Rattle.model.specs.Windows.{boundIn, beat, beatCount, scene, windowCount, windowAt, windows, windowRow, groupRows, spanRows}
 use Rattle.model.specs.Slot.{slotLength, byBound, usedBytes, slotBytes, slotMark, valueIn}
-use Rattle.model.specs.Questions.{refused, accepted, ask, outcome, each, marked, kindKnown, groupKnown, spanQuestions, recordQuestions, mostRecords, logQuestions}
+use Rattle.model.specs.Questions.{refused, accepted, ask, outcome, each, marked, kindKnown, groupKnown, spanQuestions, recordQuestions, twinQuestions, mostRecords, logQuestions}
 use Rattle.model.specs.Questions.{sceneFollows, sceneKnown, mostScenes, scenesKnown, ruleQuestion, windowRows, ruledOrder, slotQuestions}
 use Rattle.model.specs.Calls.{Counts, Header, headerOf, readOutcome, noFrames, ruleOf, boundedQuery, beatQuery, sceneQuery}
 use Rattle.model.specs.Demands.{AllPass, SpanAggregation, RuledPromise}
@@ -114,7 +114,7 @@ first-frame kind start log g differ = differ (demand2 .frameByFrame kind start l
 
 -- the questions ahead of 20 are passed
 in-order : AllPass (ruledOrder by-scenes (bytes log-G))
-unfolding ruledOrder ruleQuestion scenesKnown every sceneKnown sceneFollows mostScenes frameCount noFrames sceneQuery ask kindKnown logQuestions recordCount recordLength mostRecords each recordQuestions spanQuestions marked groupKnown recordAt numberAt recordBytes bytesOf outcome
+unfolding ruledOrder ruleQuestion scenesKnown every sceneKnown sceneFollows mostScenes frameCount noFrames sceneQuery ask kindKnown logQuestions recordCount twins isFirst recordLength mostRecords each recordQuestions twinQuestions spanQuestions marked groupKnown recordAt numberAt recordBytes bytesOf outcome
 in-order = outcome-accepted (ruledOrder by-scenes (bytes log-G)) (tt {0}) tt refl .0
 
 module _ (after : List ℕ) where

@@ -15,7 +15,7 @@ use Rattle.model.specs.Log.{recordCount}
 use Rattle.model.specs.Split.{mostRows}
 use Rattle.model.specs.Windows.{boundIn}
 use Rattle.model.specs.Slot.{slotLength}
-use Rattle.model.specs.Questions.{Question, Outcome, refused, accepted, ask, askRoom, outcome, each, spanQuestions, recordQuestions, logQuestions, orderQuestions, queryQuestions}
+use Rattle.model.specs.Questions.{Question, Outcome, refused, accepted, ask, askRoom, outcome, spanQuestions, recordQuestions, twinQuestions, logQuestions, orderQuestions, queryQuestions}
 use Rattle.model.specs.Questions.{withBound, windowRows, ruleQuestion, rowsQuestion, ruledOrder, ruledQuestions}
 use Rattle.model.specs.Calls.{Counts, countsOf, queryOutcome, querySlot, ruledAnswer, ruledMark, ruledOutcome, ruledSlot}
 use Rattle.model.specs.Demands.{AllPass, SpanAggregation, SaysTooMany}
@@ -25,6 +25,7 @@ use Rattle.model.specs.declared.Rule.the-variants.{Rows, Share, Every, Scenes}
 use Rattle.model.specs.declared.RuledQuery.{RuledQuery}
 use Rattle.theory.proofs.Tests.{none≢some, some-inj, cases}
 use Rattle.theory.proofs.Refusals.{accepted≢refused, all-head, all-tail, all-left, all-right, outcome-accepted, outcome-behind}
+use Rattle.theory.proofs.Asking.{Holds, holds-append, holds-each, refused-holds}
 use Rattle.theory.proofs.Windows.{aggregation, only}
 
 -- ---- with a bound
@@ -54,39 +55,19 @@ module _ (q : RuledQuery) (bound : Bound) (is : boundIn (q .rule) ≡ some bound
 
 -- ---- the numbers of questions
 
--- what holds of the number of each question
-abbrev Numbers : (ℕ → Type 0) → List Question → Type 0
-Numbers P [] = Unit {0}
-Numbers P (q ∷ qs) = P (q .number) × Numbers P qs
+-- the question is not 10
+abbrev NotTen : Question → Type 0
+NotTen q = q .number ≡ 10 → ⊥
 
-module _ (P : ℕ → Type 0) where
-  numbers-append : (ps qs : List Question) → Numbers P ps → Numbers P qs → Numbers P (ps ++ qs)
-  numbers-append [] qs n m = m
-  numbers-append (p ∷ ps) qs n m = (n .0, numbers-append ps qs (n .1) m)
-
-  numbers-each : (qs : ℕ → List Question) (i count : ℕ) → ((j : ℕ) → Numbers P (qs j)) → Numbers P (each qs i count)
-  unfolding each
-  numbers-each qs i zero n = tt
-  numbers-each qs i (suc count) n = numbers-append (qs i) (each qs (suc i) count) (n i) (numbers-each qs (suc i) count n)
-
-  -- holds of that of a refusal
-  refused-number : {A : Type 0} (qs : List Question) (a : A) (n i : ℕ) → Numbers P qs → outcome qs a ≡ refused n i → P n
-  unfolding outcome
-  refused-number [] a n i all e = absurd (accepted≢refused e)
-  refused-number {A} (q ∷ qs) a n i all e =
-      cases (q .passed) (λ t. refused-number qs a n i (all .1) (rw t at e))
-      (λ t. let said : _≡_ {A = Outcome A} (refused (q .number) (q .index)) (refused n i) = rw t at e in
-      let same : q .number ≡ n = cc in subst P same (all .0))
-
--- the questions of a log are 4 to 9
-log-numbers : (log : List ℕ) → Numbers (λ n. n ≡ 10 → ⊥) (logQuestions log)
-unfolding logQuestions recordQuestions spanQuestions ask
+-- the questions of a log are 4 to 9 and 21
+log-numbers : (log : List ℕ) → Holds NotTen (logQuestions log)
+unfolding logQuestions recordQuestions spanQuestions twinQuestions ask
 log-numbers log = (
   (λ n. omega arith),
   (
     (λ n. omega arith),
-    numbers-each (λ n. n ≡ 10 → ⊥) (recordQuestions log) 0 (recordCount log)
-        (λ j. ((λ n. omega arith), ((λ n. omega arith), ((λ n. omega arith), ((λ n. omega arith), tt))))),
+    holds-each NotTen (λ i. recordQuestions log i ++ twinQuestions log i) 0 (recordCount log)
+        (λ j. ((λ n. omega arith), ((λ n. omega arith), ((λ n. omega arith), ((λ n. omega arith), ((λ n. omega arith), tt)))))),
   ),
 )
 
@@ -132,7 +113,7 @@ module _ (q : RuledQuery) (windowed : boundIn (q .rule) ≡ none) (log : List �
   -- and 10 is not among the questions
   pub not-too-few : (index : ℕ) → ruledOutcome q log room ≡ refused 10 index → ⊥
   unfolding ruledOutcome ruledQuestions ruledOrder logQuestions askRoom ask rowsQuestion ruleQuestion boundIn
-  not-too-few index e = refused-number (λ n. n ≡ 10 → ⊥) (ruledQuestions q log room) _ 10 index numbers e refl
+  not-too-few index e = let (x, other, ten, at) = refused-holds NotTen (ruledQuestions q log room) _ 10 index numbers e in other ten
     where
       rule-number : (r : Rule) → q .rule ≡ r → (ruleQuestion q) .number ≡ 10 → ⊥
       rule-number (Rows c) e n = none≢some windowed (ap boundIn e)
@@ -143,14 +124,14 @@ module _ (q : RuledQuery) (windowed : boundIn (q .rule) ≡ none) (log : List �
       rows-number : (rowsQuestion q log) .number ≡ 10 → ⊥
       rows-number n = omega (arith, rw (windowed, rowsQuestion) at n)
 
-      numbers : Numbers (λ n. n ≡ 10 → ⊥) (ruledQuestions q log room)
+      numbers : Holds NotTen (ruledQuestions q log room)
       numbers = (
         (λ n. omega arith),
         (
           (λ n. omega arith),
           (
             rule-number (q .rule) refl,
-            numbers-append (λ n. n ≡ 10 → ⊥) (logQuestions log) (rowsQuestion q log ∷ []) (log-numbers log) (rows-number, tt),
+            holds-append NotTen (logQuestions log) (rowsQuestion q log ∷ []) (log-numbers log) (rows-number, tt),
           ),
         ),
       )

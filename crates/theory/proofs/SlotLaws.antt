@@ -30,7 +30,7 @@ use Rattle.theory.proofs.Refusals.{all-outcome, all-lent, outcome-accep
 -- ---- lists by their elements
 
 -- what stands at an index within a list is one of its members
-member-at : {A : Type 0} (d : A) (l : List A) (i : ℕ) → i < length l → List·Memᴰ (getD l i d) l
+pub member-at : {A : Type 0} (d : A) (l : List A) (i : ℕ) → i < length l → List·Memᴰ (getD l i d) l
 member-at d [] i lt = absurd (omega arith)
 member-at d (a ∷ l) zero lt = List·Memᴰ·head refl
 member-at d (a ∷ l) (suc i) lt = List·Memᴰ·tail (member-at d l i (omega arith))
@@ -68,7 +68,7 @@ take-next : (n p : ℕ) (bytes : List ℕ) → p < length bytes
 take-next n p bytes fits = ap (λ (l : List ℕ). take (suc n) l) (drop-cons bytes p 0 fits)
 
 -- and several more
-take-more : (n m p : ℕ) (bytes : List ℕ)
+pub take-more : (n m p : ℕ) (bytes : List ℕ)
     → take (n + m) (drop p bytes) ≡ take n (drop p bytes) ++ take m (drop (p + n) bytes)
 take-more n m p bytes =
     take-add n m (drop p bytes) ∙ ap (λ (l : List ℕ). take n (drop p bytes) ++ take m l) (drop-drop n p bytes)

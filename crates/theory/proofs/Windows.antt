@@ -25,6 +25,7 @@ use Rattle.model.specs.declared.Rule.{Rule}
 use Rattle.model.specs.declared.Rule.the-variants.{Rows, Share, Every, Scenes}
 use Rattle.model.specs.declared.RuledQuery.{RuledQuery}
 use Rattle.theory.proofs.Tests.{true≢false, none≢some, some-inj, cases, and-true, holds-true, true-holds}
+use Rattle.theory.proofs.Every.{every-at}
 use Rattle.theory.proofs.Frames.{Heads, Chain, heads-map, chain-heads, chain-member, chain-neighbours, chain-later, From, Earlier}
 use Rattle.theory.proofs.Converse.{member-listFrom, valueIn-member}
 use Rattle.theory.proofs.Bounds.{sound-records, stretch-le}
@@ -35,7 +36,7 @@ use Rattle.theory.proofs.Labels.{labelled-frame, member-hits}
 
 module _ {A : Type 0} (P : A → Type 0) (R : A → A → Type 0) where
   -- a list whose elements are given by number
-  listFrom-chain : (h : ℕ → A) (from count : ℕ) → ((i : ℕ) → from ≤ i → i < from + count → P (h i))
+  pub listFrom-chain : (h : ℕ → A) (from count : ℕ) → ((i : ℕ) → from ≤ i → i < from + count → P (h i))
       → ((i : ℕ) → from ≤ i → suc i < from + count → R (h i) (h (suc i))) → Chain P R (listFrom from count h)
   unfolding listFrom
   listFrom-chain h from zero each next = tt
@@ -59,7 +60,7 @@ module _ {A : Type 0} (P : A → Type 0) (R : A → A → Type 0) where
 
   -- an order without circles puts the same members in one list only
   module _ (trans : (a b c : A) → P b → R a b → R b c → R a c) (apart : (a b : A) → P a → P b → R a b → R b a → ⊥) where
-    same-members : (l m : List A) → Chain P R l → Chain P R m → ((a : A) → List·Memᴰ a l → List·Memᴰ a m)
+    pub same-members : (l m : List A) → Chain P R l → Chain P R m → ((a : A) → List·Memᴰ a l → List·Memᴰ a m)
         → ((a : A) → List·Memᴰ a m → List·Memᴰ a l) → l ≡ m
     same-members [] [] c d to from = refl
     same-members [] (b ∷ m) c d to from = absurd (List·Memᴰ·not-nil (from b (List·Memᴰ·head refl)))
@@ -107,16 +108,6 @@ Proper w = (w .first ≤ w .last) × (w .last < frameCount)
 -- one window ends before another begins
 abbrev Ahead : Window → Window → Type 0
 Ahead v w = v .last < w .first
-
--- what a test holds of
-pub every-at : (test : ℕ → Bool) (from count : ℕ) → every test from count ≡ true → (i : ℕ) → from ≤ i → i < from + count
-    → test i ≡ true
-unfolding every
-every-at test from zero all i a b = absurd (omega arith)
-every-at test from (suc count) all i a b =
-    let both = and-true (test from) (every test (suc from) count) all in
-    cases (eqb from i) (λ e. subst (λ (k : ℕ). test k ≡ true) (eqb-true from i e) (both .0))
-    (λ e. every-at test (suc from) count (both .1) i (omega (arith, eqb-false from i e)) (omega arith))
 
 -- how many windows begin at a frame
 pub beat-begins : (frames start i : ℕ) → 0 < frames → (i < beatCount frames start) ↔ (start + frames * i < frameCount)
@@ -219,7 +210,7 @@ meeting-from kind (r ∷ rs) g a b v e =
     (λ t. let (m, n, is) = meeting-from kind rs g a b v (rw t at e) in (m, List·Memᴰ·tail n, is))
 
 -- a member of one of the lists that are joined
-joined-member : {A B : Type 0} (h : A → List B) (l : List A) (a : A) (b : B) → List·Memᴰ a l → List·Memᴰ b (h a)
+pub joined-member : {A B : Type 0} (h : A → List B) (l : List A) (a : A) (b : B) → List·Memᴰ a l → List·Memᴰ b (h a)
     → List·Memᴰ b (joined h l)
 unfolding joined
 joined-member h [] a b m n = absurd (List·Memᴰ·not-nil m)

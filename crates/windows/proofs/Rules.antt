@@ -14,7 +14,7 @@ use Rattle.model.specs.declared.Rule.{Rule}
 use Rattle.model.specs.declared.Rule.the-variants.{Rows, Share, Every, Scenes}
 use Rattle.model.specs.declared.RuledQuery.{RuledQuery}
 use Rattle.theory.proofs.Tests as tests
-use Rattle.theory.proofs.Windows.{every-at}
+use Rattle.theory.proofs.Every.{every-at}
 use Rattle.windows.specs.Listed.{Known, byRule}
 use Rattle.windows.proofs.Beats.{beat-forward}
 

@@ -25,6 +25,10 @@ const SIZES: [usize; 5] = [6, 20, 60, 128, 255];
 /// The row limits.
 const LIMITS: [u16; 4] = [1, 2, 4, 64];
 
+/// The segment counts of logs with few segments, and their row limits.
+const FEW_SIZES: [usize; 3] = [1, 6, 20];
+const FEW_LIMITS: [u16; 2] = [1, 64];
+
 fn record(group: u8, first: usize, last: usize, load: usize) -> Vec<u8> {
     let mut bytes = vec![0x4C, 0x44, group];
     for number in [first, last, load] {
@@ -70,6 +74,21 @@ const SHAPES: [Shape; 6] = [
         name: "random, mean",
         kind: Kind::MEAN.0,
         log: random,
+    },
+];
+
+/// Logs of 128 records with few segments. Whether a record has a twin is asked of all of them; where
+/// they lie over the same frames, hardly anything else is to be done.
+const FEW_SHAPES: [Shape; 2] = [
+    Shape {
+        name: "few segments of 128 records",
+        kind: Kind::SUM.0,
+        log: stacked,
+    },
+    Shape {
+        name: "few segments, nested records",
+        kind: Kind::SUM.0,
+        log: nested,
     },
 ];
 
@@ -172,6 +191,32 @@ fn groups(n: usize) -> Vec<u8> {
         .collect()
 }
 
+/// 128 records over n stretches of frames, one after the other. Records over the same stretch differ
+/// in their loads.
+fn stacked(n: usize) -> Vec<u8> {
+    (0..128)
+        .flat_map(|i| {
+            let place = i % n;
+            let load = noise(place) % 800 + i / n;
+            record(0, 100 * place, 100 * place + 99, load)
+        })
+        .collect()
+}
+
+/// n records one after the other, and others with the load 0 to make 128, each within the one
+/// before: there are many events, and few of them change the sum.
+fn nested(n: usize) -> Vec<u8> {
+    (0..128)
+        .flat_map(|i| {
+            if i < n {
+                record(0, 1000 * i, 1000 * i + 999, 1 + noise(i) % 500 * 2 + i % 2)
+            } else {
+                record(0, i, 1000 * n - i, 0)
+            }
+        })
+        .collect()
+}
+
 /// The times of some calls, lowest to highest; the median is printed.
 fn median(times: &mut [f64]) -> f64 {
     times.sort_by(f64::total_cmp);
@@ -239,7 +284,7 @@ impl Report {
     /// Prints a row; the library is the first of the versions.
     fn line(&mut self, what: &str, numbers: &str, versions: &mut [&mut dyn FnMut()]) {
         let times = measure(self.rounds, versions);
-        print!("{what:<32} {numbers:>29}");
+        print!("{what:<38} {numbers:>29}");
         for median in &times.medians {
             print!(" {:>10.3}", median / 1000.0);
         }
@@ -253,7 +298,7 @@ impl Report {
 
 /// The head of a table in which the library is held to so many plain versions.
 fn head(numbers: &str, plain: usize) {
-    print!("\n{:<32} {numbers:>29} {:>10}", "", "library µs");
+    print!("\n{:<38} {numbers:>29} {:>10}", "", "library µs");
     for name in &PLAIN[..plain] {
         print!(" {:>10}", format!("{name} µs"));
     }
@@ -315,13 +360,14 @@ fn query_line(report: &mut Report, shape: &Shape, n: usize, log: &[u8], rule: u8
     );
 }
 
-/// The count of segments, the same for both.
+/// The count of segments, the same for both. The log is accepted, and so has no twins.
 fn count_segments(log: &[u8], kind: u8) -> usize {
     let mut list = [c::Segment::default(); 255];
     let mut other = [plain::Segment::default(); 255];
     let answer = c::segments(log, kind, &mut list);
     let expected = plain::segments(log, black_box(kind), &mut other);
     assert_eq!((answer.question, answer.index, answer.count), expected);
+    assert_eq!(answer.question, 0);
     for (one, two) in list.iter().zip(&other) {
         assert_eq!(
             (one.group, one.first, one.last, one.value),
@@ -329,6 +375,62 @@ fn count_segments(log: &[u8], kind: u8) -> usize {
         );
     }
     answer.count
+}
+
+/// The segment call on a log.
+fn segments_line(report: &mut Report, shape: &Shape, log: &[u8]) {
+    let n = count_segments(log, shape.kind);
+    let mut list = [c::Segment::default(); 255];
+    let mut other = [plain::Segment::default(); 255];
+    let input = || black_box((log, shape.kind));
+    report.line(
+        &format!("segments, {}", shape.name),
+        &n.to_string(),
+        &mut [
+            &mut || {
+                let (log, kind) = input();
+                black_box(c::segments(log, kind, &mut list));
+            },
+            &mut || {
+                let (log, kind) = input();
+                black_box(plain::segments(log, kind, &mut other));
+            },
+        ],
+    );
+}
+
+/// The call for logs on file.
+fn without_twins_line(report: &mut Report, name: &str, log: &[u8]) {
+    // Bytes behind those written keep their content, in both.
+    let (mut one, mut two) = ([0xEE; 9 * 128], [0xEE; 9 * 128]);
+    let answer = c::without_twins(log, &mut one);
+    let expected = plain::without_twins(black_box(log), &mut two);
+    assert_eq!((answer.question, answer.index, answer.length), expected);
+    assert_eq!(answer.question, 0, "{name}");
+    assert_eq!(one, two, "{name}");
+    report.line(
+        &format!("without_twins, {name}"),
+        &format!("{} {:>5}", log.len() / 9, answer.length / 9),
+        &mut [
+            &mut || {
+                black_box(c::without_twins(black_box(log), &mut one));
+            },
+            &mut || {
+                black_box(plain::without_twins(black_box(log), &mut two));
+            },
+        ],
+    );
+}
+
+/// Logs on file: without twins, with the last record twice, and with equal records alone.
+fn without_twins_lines(report: &mut Report) {
+    for count in [0, 6, 20, 64, 128] {
+        without_twins_line(report, "no twins", &random(count));
+    }
+    let mut log = random(127);
+    log.extend_from_within(log.len() - 9..);
+    without_twins_line(report, "last record twice", &log);
+    without_twins_line(report, "all equal", &record(0, 0, 99, 500).repeat(128));
 }
 
 /// The slot that a query writes for a log of so many segments, at most 64.
@@ -449,14 +551,14 @@ fn spans() -> Vec<Spans> {
                 .flat_map(|g| stretch(g, 8000 * g + 100, 8, 100 + g))
                 .collect(),
         ),
-        // Twice 64 records of one frame, all over the frames.
+        // Twice 64 records of one frame, all over the frames; the two of a frame differ in their loads.
         spans(
             "beats of 1, 8 groups, scattered",
             Windows::Beats(1, 0),
             (0..128)
                 .flat_map(|i| {
                     let frame = 1000 * (i / 2) + noise(i / 2) % 1000;
-                    stretch(i / 2 % 8, frame, 1, noise(i) % 1001)
+                    stretch(i / 2 % 8, frame, 1, noise(i) % 500 * 2 + i % 2)
                 })
                 .collect(),
         ),
@@ -521,6 +623,7 @@ fn windows_line(report: &mut Report, spans: &Spans, kind: Kind) {
         "{name}"
     );
     assert_eq!(slot, other, "{name}");
+    assert!(matches!(answer.question, 0 | 20), "{name}: {answer:?}");
     let kinds = ["sum", "count", "least", "greatest", "mean"];
     let outcome = if answer.question == 0 {
         answer.rows.to_string()
@@ -630,6 +733,7 @@ fn main() {
     println!("Answers, slot bytes and weighed cuts are compared first and are equal. A limit below the count");
     println!("of runs, which is refused, has no row. Rows by windows have one plain version, which goes from");
     println!("window to window over those that no record meets; 'no 20' is the refusal of more than 64 rows.");
+    println!("Only logs of 'without_twins', the call for logs on file, hold equal records.");
 
     head("n bound          rows   weighed", 2);
     for shape in &SHAPES {
@@ -648,29 +752,30 @@ fn main() {
         }
     }
 
+    for shape in &FEW_SHAPES {
+        for n in FEW_SIZES {
+            let log = (shape.log)(n);
+            assert_eq!((log.len(), count_segments(&log, shape.kind)), (9 * 128, n));
+            for limit in FEW_LIMITS {
+                query_line(&mut report, shape, n, &log, c::ROWS, limit);
+            }
+        }
+    }
+
     head("n", 1);
     for shape in &SHAPES {
         for wanted in SIZES {
-            let log = (shape.log)(wanted);
-            let n = count_segments(&log, shape.kind);
-            let mut list = [c::Segment::default(); 255];
-            let mut other = [plain::Segment::default(); 255];
-            report.line(
-                &format!("segments, {}", shape.name),
-                &n.to_string(),
-                &mut [
-                    &mut || {
-                        let kind = black_box(shape.kind);
-                        black_box(c::segments(black_box(&log), kind, &mut list));
-                    },
-                    &mut || {
-                        let kind = black_box(shape.kind);
-                        black_box(plain::segments(black_box(&log), kind, &mut other));
-                    },
-                ],
-            );
+            segments_line(&mut report, shape, &(shape.log)(wanted));
         }
     }
+    for shape in &FEW_SHAPES {
+        for n in FEW_SIZES {
+            segments_line(&mut report, shape, &(shape.log)(n));
+        }
+    }
+
+    head("records  kept", 1);
+    without_twins_lines(&mut report);
 
     head("records     kind  rows", 1);
     for spans in spans() {

@@ -2,7 +2,8 @@
 //!
 //! Segments are found from event to event, the split table is filled with incremental block
 //! totals and left early, and the same questions are asked. The table has the paper's 64 times
-//! 256 entries, all 'no cut' at first.
+//! 256 entries, all 'no cut' at first. Equal records are found by comparing a record, as one
+//! number, with all before it.
 //!
 //! There are two versions of the query. They differ in where a block's error comes from: [`Anew`]
 //! works it out whenever a candidate asks for it, [`Kept`] works each out once per query.
@@ -98,29 +99,83 @@ pub fn two(bytes: &[u8], at: usize) -> u16 {
     u16::from_le_bytes([bytes[at], bytes[at + 1]])
 }
 
-/// Questions 4 to 9.
-pub fn ask_log(log: &[u8]) -> Result<(), No> {
+/// Questions 4 and 5: gives the log's records.
+fn records(log: &[u8]) -> Result<impl ExactSizeIterator<Item = &[u8]>, No> {
     if !log.len().is_multiple_of(9) {
         return Err((4, 0));
     }
     if log.len() / 9 > 128 {
         return Err((5, 0));
     }
-    for (index, record) in log.chunks_exact(9).enumerate() {
-        let question = if record[..2] != [0x4C, 0x44] {
-            6
-        } else if record[2] > 7 {
-            7
-        } else if two(record, 3) > two(record, 5) {
-            8
-        } else if two(record, 7) > 1000 {
-            9
-        } else {
-            continue;
-        };
-        return Err((question, index));
+    Ok(log.chunks_exact(9))
+}
+
+/// Questions 6 to 9 of a record: the first that gets 'no'.
+fn ask_record(record: &[u8]) -> Option<u8> {
+    if record[..2] != [0x4C, 0x44] {
+        Some(6)
+    } else if record[2] > 7 {
+        Some(7)
+    } else if two(record, 3) > two(record, 5) {
+        Some(8)
+    } else if two(record, 7) > 1000 {
+        Some(9)
+    } else {
+        None
+    }
+}
+
+/// All bytes of a record but the first, as one number. Question 6 says what the first is, so that
+/// records with equal numbers are equal.
+fn key(record: &[u8]) -> u64 {
+    let mut bytes = [0; 8];
+    bytes.copy_from_slice(&record[1..9]);
+    u64::from_le_bytes(bytes)
+}
+
+/// Questions 4 to 9 and 21.
+pub fn ask_log(log: &[u8]) -> Result<(), No> {
+    let mut keys = [0; 128];
+    for (index, record) in records(log)?.enumerate() {
+        if let Some(question) = ask_record(record) {
+            return Err((question, index));
+        }
+        let key = key(record);
+        if keys[..index].contains(&key) {
+            return Err((21, index));
+        }
+        keys[index] = key;
     }
     Ok(())
+}
+
+/// The call for logs on file: question, index and the bytes written. It asks 1 and 4 to 9 and keeps
+/// the first of equal records.
+pub fn without_twins(log: &[u8], buffer: &mut [u8]) -> (u8, usize, usize) {
+    match try_without_twins(log, buffer) {
+        Ok(length) => (0, 0, length),
+        Err((question, index)) => (question, index, 0),
+    }
+}
+
+fn try_without_twins(log: &[u8], buffer: &mut [u8]) -> Result<usize, No> {
+    let buffer = buffer.get_mut(..log.len()).ok_or((1, 0))?;
+    for (index, record) in records(log)?.enumerate() {
+        if let Some(question) = ask_record(record) {
+            return Err((question, index));
+        }
+    }
+    let mut kept = [0; 128];
+    let mut count = 0;
+    for record in log.chunks_exact(9) {
+        let key = key(record);
+        if !kept[..count].contains(&key) {
+            kept[count] = key;
+            buffer[9 * count..][..9].copy_from_slice(record);
+            count += 1;
+        }
+    }
+    Ok(9 * count)
 }
 
 /// The records of one group, as columns; `end` is the frame after the last.

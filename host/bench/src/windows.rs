@@ -49,7 +49,7 @@ struct Load {
     load: i32,
 }
 
-/// Questions 4 to 9 and 20, and the rows of the windows.
+/// Questions 4 to 9, 21 and 20, and the rows of the windows.
 fn write_rows(
     windows: &impl Windows,
     kind: u8,

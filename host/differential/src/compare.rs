@@ -2,13 +2,14 @@
 
 use crate::inputs;
 use crate::random::Random;
+use crate::twins;
 use crate::windows;
 use pacer::c;
 use reference::{Contents, Half, No, Reduction, Stretch};
 use std::fmt::Debug;
 
 /// How often each question was the first 'no', and at place 0 how often there was none.
-pub type ByQuestion = [u64; 21];
+pub type ByQuestion = [u64; 22];
 
 /// What was answered, over all calls.
 #[derive(Clone, Default)]
@@ -21,6 +22,13 @@ pub struct Seen {
     pub slot: ByQuestion,
     pub windows_slot: ByQuestion,
     pub record: ByQuestion,
+    /// Logs on file, and of these the ones that something was left out of, and how many records.
+    pub file: ByQuestion,
+    pub cleaned: u64,
+    pub left_out: u64,
+    /// Logs with a bad record behind the first twin, and with a twin behind the first bad record.
+    pub bad_after: u64,
+    pub bad_before: u64,
     /// Slots under the header of windows with nothing wrong but their error.
     pub with_error: u64,
     /// Rows of beats that are cut off at the last frame, queries by windows with just 64 rows, and
@@ -47,6 +55,7 @@ impl Seen {
             (&mut self.slot, &other.slot),
             (&mut self.windows_slot, &other.windows_slot),
             (&mut self.record, &other.record),
+            (&mut self.file, &other.file),
         ];
         for (one, two) in pairs {
             for (a, b) in one.iter_mut().zip(two) {
@@ -57,6 +66,10 @@ impl Seen {
             self.halves[kind] += other.halves[kind];
             self.earlier[kind] += other.earlier[kind];
         }
+        self.cleaned += other.cleaned;
+        self.left_out += other.left_out;
+        self.bad_after += other.bad_after;
+        self.bad_before += other.bad_before;
         self.with_error += other.with_error;
         self.cut_off += other.cut_off;
         self.full += other.full;
@@ -138,9 +151,14 @@ pub fn number<T>(outcome: &Result<T, No>) -> (u8, usize) {
 /// Runs one case.
 pub fn run(random: &mut Random, seen: &mut Seen) -> Result<(), String> {
     let records = inputs::records(random);
-    let mut log = inputs::log_of(&records);
+    let mut log = if random.percent(12) {
+        inputs::with_twins(random, &records)
+    } else {
+        inputs::log_of(&records)
+    };
     inputs::damage_log(random, &mut log);
     let kind = inputs::kind(random);
+    twins::run(random, &log, seen)?;
 
     let expected = segments(random, &log, kind, seen)?;
     let (rule, bound) = inputs::bound(random, &expected, kind);

@@ -212,10 +212,12 @@ fn small_records(random: &mut Random) -> Vec<Fields> {
         if covered > 10 {
             records.pop();
         } else if random.percent(10) {
-            records.push(record);
+            // The same frames with another load.
+            let (group, first, last, _) = record;
+            records.push((group, first, last, random.range(0, greatest) as u16));
         }
     }
-    records
+    inputs::distinct(records)
 }
 
 /// One log of many frames, so that 64 rows can be too few, against a table over its frames.

@@ -36,22 +36,20 @@ fn load(random: &mut Random, palette: u64) -> u16 {
     }
 }
 
-/// Records spread over some frames and groups; some are equal to an earlier one, some differ from
-/// it in the load alone.
+/// Records spread over some frames and groups, all different; some differ from an earlier one in the
+/// load alone. There are fewer than wanted where new ones are hard to find.
 fn spread(random: &mut Random, count: u64, base: u64, span: u64, groups: &[u8]) -> Vec<Fields> {
     let palette = random.range(0, 6);
     let longest = random.range(1, span);
     let mut records: Vec<Fields> = Vec::new();
-    for _ in 0..count {
-        let again = !records.is_empty() && random.percent(15);
+    for _ in 0..count + 8 {
+        if records.len() as u64 == count {
+            break;
+        }
+        let again = !records.is_empty() && random.percent(10);
         let record = if again {
-            let (group, first, last, kept) = random.pick(&records);
-            let new = if random.percent(50) {
-                kept
-            } else {
-                load(random, palette)
-            };
-            (group, first, last, new)
+            let (group, first, last, _) = random.pick(&records);
+            (group, first, last, load(random, palette))
         } else {
             let length = random.range(1, longest);
             let first = base + random.range(0, span - length);
@@ -63,9 +61,22 @@ fn spread(random: &mut Random, count: u64, base: u64, span: u64, groups: &[u8]) 
                 load(random, palette),
             )
         };
-        records.push(record);
+        if !records.contains(&record) {
+            records.push(record);
+        }
     }
     records
+}
+
+/// The first of equal records and the others in their order.
+pub fn distinct(records: Vec<Fields>) -> Vec<Fields> {
+    let mut kept = Vec::new();
+    for record in records {
+        if !kept.contains(&record) {
+            kept.push(record);
+        }
+    }
+    kept
 }
 
 const ALL: [u8; 8] = [0, 1, 2, 3, 4, 5, 6, 7];
@@ -75,9 +86,14 @@ fn some_groups(random: &mut Random) -> Vec<u8> {
     (0..count).map(|_| random.pick(&ALL)).collect()
 }
 
-/// Random records that get 'yes' to every question. The shapes that take the independent
-/// implementation long are rare.
+/// Random records that get 'yes' to every question and are all different. The shapes that take the
+/// independent implementation long are rare.
 pub fn records(random: &mut Random) -> Vec<Fields> {
+    distinct(shape(random))
+}
+
+/// The same, where two records may be equal.
+fn shape(random: &mut Random) -> Vec<Fields> {
     match random.range(0, 999) {
         // A few records, near each other.
         0..=449 => {
@@ -180,6 +196,75 @@ pub fn records(random: &mut Random) -> Vec<Fields> {
             spread(random, count, 0, 9, &ALL)
         }
     }
+}
+
+/// Puts a record's bytes at some place of a log, in place of another where the log is full.
+fn put(records: &mut Vec<Vec<u8>>, place: usize, record: Vec<u8>) {
+    if records.len() < 128 {
+        records.insert(place, record);
+    } else {
+        records[place.min(127)] = record;
+    }
+}
+
+/// A log of some records with twins among them: next to each other, far apart, three or more equal
+/// ones, several pairs, or all records twice. In every fifth log two records differ in one bit
+/// instead. In some logs there is a bad record too, ahead of the twins or behind, or twice.
+pub fn with_twins(random: &mut Random, records: &[Fields]) -> Vec<u8> {
+    let mut nines: Vec<Vec<u8>> = records.iter().map(|record| bytes_of(*record)).collect();
+    if nines.is_empty() {
+        return Vec::new();
+    }
+    let last = nines.len() as u64 - 1;
+    let one = random.range(0, last) as usize;
+    let twin = nines[one].clone();
+    match random.range(0, 9) {
+        0 => put(&mut nines, one + 1, twin),
+        1 | 2 => {
+            let place = random.range(one as u64 + 1, last + 1) as usize;
+            put(&mut nines, place, twin);
+        }
+        3 => {
+            let first = nines[0].clone();
+            put(&mut nines, records.len(), first);
+        }
+        4 | 5 => {
+            for _ in 0..random.range(2, 5) {
+                let again = random.pick(records);
+                let place = random.range(0, nines.len() as u64) as usize;
+                put(&mut nines, place, bytes_of(again));
+            }
+        }
+        6 => {
+            let more = random.range(2, 128) as usize;
+            nines = vec![twin; more];
+        }
+        7 => {
+            nines.extend(nines.clone());
+            nines.truncate(128);
+        }
+        _ => {
+            let mut other = twin;
+            other[random.range(0, 8) as usize] ^= 1 << random.range(0, 7);
+            let place = random.range(0, last + 1) as usize;
+            put(&mut nines, place, other);
+        }
+    }
+    if random.percent(35) {
+        let mut bad = bytes_of(random.pick(records));
+        match random.range(0, 4) {
+            0 => bad[0] ^= 1,
+            1 => bad[1] ^= 0x80,
+            2 => bad[2] = random.pick(&[8, 255]),
+            3 => bad[3..7].copy_from_slice(&[1, 0, 0, 0]),
+            _ => bad[7..].copy_from_slice(&[0xE9, 3]),
+        }
+        for _ in 0..random.pick(&[1, 1, 1, 2]) {
+            let place = random.range(0, nines.len() as u64) as usize;
+            put(&mut nines, place, bad.clone());
+        }
+    }
+    nines.concat()
 }
 
 /// Makes some bytes or the length of a log wrong, or leaves it as it is.

@@ -5,9 +5,10 @@
 //! Runs CASES random cases (100,000 if no number is given), a fifth as many small logs (at least
 //! 20,000) against every fitting list, some logs of many frames against a table over their
 //! frames, for every row count the slots with one bit of the tail set, fixed logs with windows at
-//! the edges of what is allowed, and as many small logs as above by windows gone through frame by
-//! frame. The seed is fixed unless one is given, and is printed. A difference is printed with the
-//! words that run its case alone, and the status is then 1.
+//! the edges of what is allowed, as many small logs as above by windows gone through frame by
+//! frame, and long logs with twins at every two places. The seed is fixed unless one is given, and
+//! is printed. A difference is printed with the words that run its case alone, and the status is
+//! then 1.
 
 #![forbid(unsafe_code)]
 
@@ -16,6 +17,7 @@ mod demand;
 mod inputs;
 mod random;
 mod tails;
+mod twins;
 mod windows;
 
 use compare::{ByQuestion, Seen};
@@ -36,6 +38,8 @@ const ROW_COUNTS: u64 = 65;
 const TAIL_BITS: u64 = 8 * (ROW_COUNTS * 756 - 11 * (64 * 65 / 2));
 /// The bits of the error that are wrong under the header of windows.
 const ERROR_BITS: u64 = ROW_COUNTS * 64;
+/// The places of a log's records.
+const PLACES: u64 = 128;
 
 /// The parts of a run.
 #[derive(Clone, Copy, PartialEq)]
@@ -46,16 +50,18 @@ enum Part {
     Tails,
     Edges,
     Frames,
+    Twins,
 }
 
 impl Part {
-    const ALL: [Part; 6] = [
+    const ALL: [Part; 7] = [
         Part::Random,
         Part::Small,
         Part::Many,
         Part::Tails,
         Part::Edges,
         Part::Frames,
+        Part::Twins,
     ];
 
     fn name(self) -> &'static str {
@@ -66,6 +72,7 @@ impl Part {
             Part::Tails => "tails",
             Part::Edges => "edges",
             Part::Frames => "frames",
+            Part::Twins => "twins",
         }
     }
 
@@ -78,6 +85,7 @@ impl Part {
             Part::Tails => tails::run(&mut random, case, &mut counts.seen),
             Part::Edges => windows::run_edges(&mut random, case, &mut counts.seen),
             Part::Frames => windows::run_frames(&mut random, &mut counts.gone),
+            Part::Twins => twins::run_places(&mut random, case, &mut counts.seen),
         }
     }
 }
@@ -159,8 +167,8 @@ fn print_counts(call: &str, counts: &ByQuestion) {
 
 /// The questions of the calls by windows and of the slots under their header.
 const BY_WINDOWS: [(&str, &[usize]); 3] = [
-    ("beats", &[0, 1, 2, 4, 5, 6, 7, 8, 9, 18, 20]),
-    ("scenes", &[0, 1, 2, 4, 5, 6, 7, 8, 9, 19, 20]),
+    ("beats", &[0, 1, 2, 4, 5, 6, 7, 8, 9, 18, 20, 21]),
+    ("scenes", &[0, 1, 2, 4, 5, 6, 7, 8, 9, 19, 20, 21]),
     ("slot by windows", &[0, 7, 12, 13, 14, 15, 16, 17]),
 ];
 
@@ -205,9 +213,14 @@ fn without_halves(counts: &[u64; 5]) -> Vec<String> {
 
 /// The questions that a call asks but that no case failed, and what else no case had.
 fn unreached(seen: &Seen) -> Vec<String> {
-    let calls: [(&str, &ByQuestion, &[usize]); 4] = [
-        ("query", &seen.query, &[0, 1, 2, 3, 4, 5, 6, 7, 8, 9, 10]),
-        ("segments", &seen.segments, &[0, 1, 2, 4, 5, 6, 7, 8, 9]),
+    let calls: [(&str, &ByQuestion, &[usize]); 5] = [
+        (
+            "query",
+            &seen.query,
+            &[0, 1, 2, 3, 4, 5, 6, 7, 8, 9, 10, 21],
+        ),
+        ("segments", &seen.segments, &[0, 1, 2, 4, 5, 6, 7, 8, 9, 21]),
+        ("log on file", &seen.file, &[0, 1, 4, 5, 6, 7, 8, 9]),
         ("slot", &seen.slot, &[0, 1, 7, 11, 12, 13, 14, 15, 16, 17]),
         ("record", &seen.record, &[0, 1, 7, 8, 9]),
     ];
@@ -221,7 +234,30 @@ fn unreached(seen: &Seen) -> Vec<String> {
     for (call, counts, questions) in calls {
         missing.extend(zeros(call, counts, questions));
     }
+    let features = [
+        ("a log with twins on file", seen.cleaned),
+        ("a bad record behind a twin", seen.bad_after),
+        ("a twin behind a bad record", seen.bad_before),
+    ];
+    missing.extend(
+        features
+            .iter()
+            .filter(|(_, count)| *count == 0)
+            .map(|(what, _)| what.to_string()),
+    );
     missing
+}
+
+/// Prints what was refused for twins, and what was kept of logs on file.
+fn print_twins(seen: &Seen) {
+    println!(
+        "  refused for twins: query {}, segments {}, by beats {}, by scenes {}; a bad record behind {}, ahead {}",
+        seen.query[21], seen.segments[21], seen.beats[21], seen.scenes[21], seen.bad_after, seen.bad_before
+    );
+    println!(
+        "  logs on file cleaned of twins {}, records left out {}",
+        seen.cleaned, seen.left_out
+    );
 }
 
 /// Prints what queries by windows and their slots gave.
@@ -265,7 +301,7 @@ fn arguments() -> Option<Arguments> {
 fn main() -> ExitCode {
     let Some(arguments) = arguments() else {
         eprintln!(
-            "usage: differential [CASES] [--seed SEED] [--only random|small|many|tails|edges|frames CASE]"
+            "usage: differential [CASES] [--seed SEED] [--only random|small|many|tails|edges|frames|twins CASE]"
         );
         return ExitCode::from(2);
     };
@@ -290,6 +326,7 @@ fn main() -> ExitCode {
             Part::Many => LONG_LOGS.max(arguments.cases / 250),
             Part::Tails => ROW_COUNTS,
             Part::Edges => windows::edges(),
+            Part::Twins => PLACES,
         };
         let start = Instant::now();
         let counts = match run_all(part, seed, cases) {
@@ -312,7 +349,9 @@ fn main() -> ExitCode {
                 print_counts("segments", &seen.segments);
                 print_counts("read and lookup", &seen.slot);
                 print_counts("write_record", &seen.record);
+                print_counts("logs on file", &seen.file);
                 print_windows(seen);
+                print_twins(seen);
                 println!(
                     "  most segments {}, rows {}, cuts weighed {}",
                     seen.most_segments, seen.most_rows, seen.most_weighed
@@ -371,6 +410,19 @@ fn main() -> ExitCode {
                 "{cases} small logs by windows gone through frame by frame, {} queries, {} rows: no difference ({seconds:.1} s)",
                 counts.gone.queries, counts.gone.rows
             ),
+            Part::Twins => {
+                let seen = &counts.seen;
+                println!(
+                    "{cases} places of a record with each earlier one's bytes, and with each bit of one changed: no difference ({seconds:.1} s)"
+                );
+                print_twins(seen);
+                // Every two places, in a log of 128 records and in one that ends with the later one.
+                let pairs = PLACES * (PLACES - 1);
+                if (seen.segments[21], seen.cleaned) != (pairs, pairs) {
+                    println!("expected {pairs} logs with twins");
+                    return ExitCode::FAILURE;
+                }
+            }
         }
     }
     println!("differential: ok");

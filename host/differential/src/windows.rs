@@ -181,6 +181,7 @@ fn edge_records() -> Vec<Vec<Fields>> {
     let eighths: Vec<Fields> = (0..8).map(|g| stretch(g, 8 * u16::from(g), 8, 5)).collect();
     let quarters: Vec<Fields> = (0..4).map(|group| stretch(group, 0, 160, 9)).collect();
     let with = |records: &[Fields], more: Fields| [records, &[more]].concat();
+    let around = |i: u16| (7, 300 - i % 12, 301 + i / 12, 1000);
     vec![
         vec![],
         // Log G, and the relation of the first source's Figure 1.
@@ -217,17 +218,31 @@ fn edge_records() -> Vec<Vec<Fields>> {
         // 64 rows of 600 frames and 65.
         vec![stretch(6, 0, 64 * 600, 3)],
         vec![stretch(6, 0, 64 * 600 + 1, 3)],
-        // 128 records: one within the other, one after the other in all groups, and all equal.
+        // 128 records: one within the other, one after the other in all groups, and all with the
+        // greatest load around two frames; and 129 of those.
         (0..128).map(|i| (1, i, 300 - i, i % 7)).collect(),
         (0..128)
             .map(|i| (i as u8 % 8, i, i, 8 * i % 1001))
             .collect(),
-        vec![(7, 300, 301, 1000); 128],
-        vec![(7, 300, 301, 1000); 129],
+        (0..128).map(around).collect(),
+        (0..129).map(around).collect(),
         // Records that questions 7, 8 and 9 refuse.
         vec![(0, 0, 3, 100), (8, 0, 3, 100)],
         vec![(0, 0, 3, 100), (0, 3, 2, 100)],
         vec![(0, 0, 3, 100), (0, 0, 3, 1001)],
+        // Twins: next to each other, far apart, of 64 frames and of 65, ahead of a bad record and
+        // behind one.
+        vec![(0, 0, 3, 100), (0, 0, 3, 100), (1, 2, 5, 200)],
+        (0..128).map(|i| around(i % 127)).collect(),
+        vec![stretch(2, 0, 64, 3); 2],
+        vec![stretch(2, 0, 65, 3); 3],
+        vec![
+            (0, 0, 3, 100),
+            (1, 0, 3, 100),
+            (0, 0, 3, 100),
+            (8, 0, 3, 100),
+        ],
+        vec![(0, 0, 3, 100), (8, 0, 3, 100), (0, 0, 3, 100)],
     ]
 }
 
@@ -373,6 +388,7 @@ pub fn run_frames(random: &mut Random, gone: &mut Gone) -> Result<(), String> {
             (group, first as u16, (first + length - 1) as u16, load)
         })
         .collect();
+    let records = inputs::distinct(records);
     let log = inputs::log_of(&records);
     let kind = random.range(0, u64::from(reference::MOST_KIND)) as u8;
     let context =

@@ -23,6 +23,15 @@ pub struct RecordAnswer {
     pub index: usize,
 }
 
+/// The answer of [`without_twins`]; `length` is 0 in a refusal.
+#[repr(C)]
+#[derive(Clone, Copy, Debug, PartialEq, Eq)]
+pub struct LogAnswer {
+    pub question: u8,
+    pub index: usize,
+    pub length: usize,
+}
+
 /// The answer of [`segments`].
 #[repr(C)]
 #[derive(Clone, Copy, Debug, PartialEq, Eq)]
@@ -128,6 +137,12 @@ mod declared {
             buffer: *mut u8,
             length: usize,
         ) -> RecordAnswer;
+        pub fn pacer_without_twins(
+            log: *const u8,
+            log_length: usize,
+            buffer: *mut u8,
+            buffer_length: usize,
+        ) -> LogAnswer;
         pub fn pacer_query(
             kind: u8,
             rule: u8,
@@ -188,6 +203,16 @@ pub fn write_record(
     // SAFETY: pointer and length are those of an exclusive slice.
     unsafe {
         declared::pacer_write_record(group, first, last, load, buffer.as_mut_ptr(), buffer.len())
+    }
+}
+
+/// Calls `pacer_without_twins`.
+#[inline]
+pub fn without_twins(log: &[u8], buffer: &mut [u8]) -> LogAnswer {
+    // SAFETY: pointers and lengths are those of a shared and an exclusive slice, which do not
+    // overlap.
+    unsafe {
+        declared::pacer_without_twins(log.as_ptr(), log.len(), buffer.as_mut_ptr(), buffer.len())
     }
 }
 

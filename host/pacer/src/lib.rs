@@ -42,7 +42,8 @@
 //! ```
 //!
 //! Every call asks its questions in order. The first that gets 'no' is the [`Refusal`], and then
-//! nothing lent to the call is changed.
+//! nothing lent to the call is changed. A log that holds a record twice is refused by question 21;
+//! [`without_twins`] is for such logs on file.
 
 #![deny(unsafe_code)]
 #![warn(missing_docs)]
@@ -261,10 +262,10 @@ pub struct Reduction {
 /// ```
 #[derive(Clone, Copy, Debug, PartialEq, Eq, Hash)]
 pub struct Refusal {
-    /// The question's number, 1 to 20.
+    /// The question's number, 1 to 21.
     pub question: u8,
-    /// The index from 0 of the record or row concerned, for questions 6 to 9 and 14 to 16; 0 for
-    /// the others.
+    /// The index from 0 of the record or row concerned, for questions 6 to 9, 14 to 16 and 21; 0
+    /// for the others.
     pub index: usize,
 }
 
@@ -277,7 +278,7 @@ impl Refusal {
     /// ```
     pub fn words(&self) -> &'static str {
         match self.question {
-            1 => "Is the lent buffer or list long enough (slot 768, segments 255, rows 64, record 9)?",
+            1 => "Is the lent buffer or list long enough (slot 768, segments 255, rows 64, record 9, and for a log without its twins as long as the log)?",
             2 => "Is the kind 0 to 4?",
             3 => "Is c at most 64, or p at most 1,000?",
             4 => "Is the log's length a multiple of 9?",
@@ -297,6 +298,7 @@ impl Refusal {
             18 => "Is the length of the beats at least 1?",
             19 => "Are there 1 to 16 scenes, as many firsts as lasts, each first at most its last, and each scene wholly after the one before?",
             20 => "Are there at most 64 rows?",
+            21 => "Does no earlier record have the same nine bytes?",
             _ => "unknown question",
         }
     }
@@ -313,7 +315,7 @@ impl Refusal {
 impl fmt::Display for Refusal {
     fn fmt(&self, f: &mut fmt::Formatter<'_>) -> fmt::Result {
         write!(f, "question {}", self.question)?;
-        if matches!(self.question, 6..=9 | 14..=16) {
+        if matches!(self.question, 6..=9 | 14..=16 | 21) {
             write!(f, " at index {}", self.index)?;
         }
         write!(f, " got 'no': {}", self.words())
@@ -345,13 +347,15 @@ pub fn write_record(record: Record, buffer: &mut [u8]) -> Result<(), Refusal> {
 /// The bytes of a log of some records.
 ///
 /// Asks questions 7, 8 and 9 of every record; the refusal's index is the record's. The number of
-/// records is not limited here, but no other call accepts more than 128.
+/// records is not limited here, but no other call accepts more than 128; nor are equal records
+/// refused here, but by every other call except [`without_twins`].
 ///
 /// ```
 /// use pacer::Record;
 ///
 /// let good = Record { group: 0, first: 0, last: 3, load: 100 };
-/// assert_eq!(pacer::log(&[good, good])?.len(), 18);
+/// let next = Record { first: 4, last: 7, ..good };
+/// assert_eq!(pacer::log(&[good, next])?.len(), 18);
 /// let heavy = Record { load: 1_001, ..good };
 /// let refusal = pacer::log(&[good, heavy]).unwrap_err();
 /// assert_eq!((refusal.question, refusal.index), (9, 1));
@@ -369,10 +373,46 @@ pub fn log(records: &[Record]) -> Result<Vec<u8>, Refusal> {
     Ok(bytes)
 }
 
+/// Writes a log without its twins to the front of a buffer, which is at least as long as the log,
+/// and gives the number of bytes written: the first of equal records and the others, in their
+/// order. The other bytes of the buffer keep their content.
+///
+/// This is for logs on file. A logger restarted in a scene writes its last record twice, so that
+/// the sum doubles; every other call refuses such a log by question 21. Records are equal if all
+/// nine bytes are.
+///
+/// Asks questions 1 and 4 to 9, and not 21.
+///
+/// ```
+/// use pacer::{Bound, Kind, Query, Record};
+///
+/// let start = Record { group: 0, first: 0, last: 59, load: 200 };
+/// let peak = Record { group: 0, first: 58, last: 61, load: 900 };
+/// let on_file = pacer::log(&[start, peak, peak])?;
+///
+/// // The third record is the second one's twin.
+/// let query = Query { kind: Kind::SUM, bound: Bound::Rows(1) };
+/// let mut slot = [0; pacer::SLOT_BYTES];
+/// let refusal = pacer::query(query, &on_file, &mut slot).unwrap_err();
+/// assert_eq!((refusal.question, refusal.index), (21, 2));
+///
+/// let mut buffer = vec![0xEE; on_file.len()];
+/// let length = pacer::without_twins(&on_file, &mut buffer)?;
+/// assert_eq!(buffer[..length], pacer::log(&[start, peak])?);
+/// assert_eq!(buffer[length..], [0xEE; 9]);
+/// assert_eq!(pacer::query(query, &buffer[..length], &mut slot)?.rows, 1);
+/// # Ok::<(), pacer::Refusal>(())
+/// ```
+pub fn without_twins(log: &[u8], buffer: &mut [u8]) -> Result<usize, Refusal> {
+    let answer = c::without_twins(log, buffer);
+    Refusal::from_answer(answer.question, answer.index)?;
+    Ok(answer.length)
+}
+
 /// Writes a log's segments into a list of at least 255 places and gives those written, by group
 /// and then by first frame. The other places keep their content.
 ///
-/// Asks questions 1, 2 and 4 to 9.
+/// Asks questions 1, 2, 4 to 9 and 21, the last after 9 of the same record.
 ///
 /// ```
 /// use pacer::{Kind, Record, Segment, SEGMENT_PLACES};
@@ -405,7 +445,8 @@ pub fn segments<'a>(
 /// Reduces a log to the rows that the query asks for and writes them into the first 768 bytes of
 /// a slot; the other bytes keep their content.
 ///
-/// Asks questions 1 to 10. By windows it asks 18 or 19 in place of 3, and 20 in place of 10.
+/// Asks questions 1 to 10, and 21 of a record after its 9. By windows it asks 18 or 19 in place of
+/// 3, and 20 in place of 10.
 ///
 /// ```
 /// use pacer::{Bound, Kind, Query, Record};

@@ -1,8 +1,8 @@
 //! Log G and the paper's other small cases, through the safe functions.
 
 use pacer::c;
-use pacer::{Bound, Kind, Query, Record, Refusal, Row, Segment, Walker};
-use pacer::{ROWS, SEGMENT_PLACES, SLOT_BYTES};
+use pacer::{Bound, Kind, Query, Record, Refusal, Row, Rule, Scene, Segment, Walker};
+use pacer::{RECORDS, RECORD_BYTES, ROWS, SEGMENT_PLACES, SLOT_BYTES};
 
 fn record(group: u8, first: u16, last: u16, load: u16) -> Record {
     Record {
@@ -247,7 +247,7 @@ fn greatest_of_g() {
 }
 
 /// Halves go up in every row, by every kind but 3: the values 0 and 1, 500 and 501, 900 and 907 in
-/// three rows, and 127,000 once with 128,000 1,999 times.
+/// three rows, and 118,872 once with 119,872 1,999 times.
 #[test]
 fn halves() {
     let frames: Vec<Record> = (0u16..)
@@ -274,18 +274,11 @@ fn halves() {
         assert_eq!(pacer::read(&slot).unwrap().rows(), rows, "{kind:?}");
     }
 
-    let mut records = vec![
-        Record {
-            group: 3,
-            first: 0,
-            last: 1999,
-            load: 1000,
-        };
-        128
-    ];
-    records[60].first = 1;
+    // Loads from 1,000 down; the first record alone begins a frame later.
+    let mut records: Vec<Record> = (0..128).map(|i| record(3, 0, 1999, 1000 - i)).collect();
+    records[0].first = 1;
     let log = pacer::log(&records).unwrap();
-    for (kind, value, error) in [(Kind::SUM, 128_000, 1_000_000), (Kind::COUNT, 128, 1)] {
+    for (kind, value, error) in [(Kind::SUM, 119_872, 1_000_000), (Kind::COUNT, 128, 1)] {
         let mut slot = [0; SLOT_BYTES];
         let bound = Bound::Rows(1);
         let answer = pacer::query(Query { kind, bound }, &log, &mut slot).unwrap();
@@ -356,4 +349,181 @@ fn rows_and_refusals() {
         refusal.to_string(),
         "question 14 at index 2 got 'no': Row mark right?"
     );
+}
+
+/// 128 records of the greatest load, each within the one before, give the greatest number of
+/// segments and the greatest value of all.
+#[test]
+fn most_segments_and_loads() {
+    let records: Vec<Record> = (0..128).map(|i| record(7, i, 1000 - i, 1000)).collect();
+    let log = pacer::log(&records).unwrap();
+    let mut list = [Segment::default(); SEGMENT_PLACES];
+    let found = pacer::segments(&log, Kind::SUM, &mut list).unwrap();
+    assert_eq!(found.len(), SEGMENT_PLACES);
+    assert_eq!((found[127].first, found[127].value), (127, 128_000));
+    let query = Query {
+        kind: Kind::SUM,
+        bound: Rule::Scenes(&[Scene::new(0, 1000)]),
+    };
+    let mut slot = [0; SLOT_BYTES];
+    pacer::query(query, &log, &mut slot).unwrap();
+    assert_eq!(pacer::lookup(&slot, 7, 0), Ok(Some(128_000)));
+}
+
+/// What every call that asks a log all its questions says of it: they agree, and a refusal changes
+/// nothing.
+fn asked(log: &[u8]) -> Result<(), Refusal> {
+    let untouched = Segment {
+        group: 9,
+        ..Segment::default()
+    };
+    let mut list = [untouched; SEGMENT_PLACES];
+    let outcome = pacer::segments(log, Kind::SUM, &mut list).map(|_| ());
+    if outcome.is_err() {
+        assert_eq!(list, [untouched; SEGMENT_PLACES]);
+    }
+    let scenes = [Scene::new(0, 65_535)];
+    let every = Rule::Every {
+        length: 65_535,
+        start: 0,
+    };
+    for bound in [
+        Bound::Rows(64),
+        Bound::Share(1000),
+        every,
+        Rule::Scenes(&scenes),
+    ] {
+        let mut slot = [0xAA; SLOT_BYTES];
+        let answer = pacer::query(sum(bound), log, &mut slot).map(|_| ());
+        assert_eq!(answer, outcome, "{bound:?}");
+        if outcome.is_err() {
+            assert_eq!(slot, [0xAA; SLOT_BYTES]);
+        }
+    }
+    outcome
+}
+
+fn refused(question: u8, index: usize) -> Result<(), Refusal> {
+    Err(Refusal { question, index })
+}
+
+/// Log G with its last record twice, as a restarted logger writes it.
+fn restarted() -> Vec<u8> {
+    let mut log = log_g();
+    log.extend_from_within(log.len() - RECORD_BYTES..);
+    log
+}
+
+/// Question 21: the later one of two equal records.
+#[test]
+fn twins() {
+    assert_eq!(asked(&log_g()), Ok(()));
+    let log = restarted();
+    assert_eq!(asked(&log), refused(21, 5));
+    let mut slot = [0; SLOT_BYTES];
+    assert_eq!(
+        pacer::query(sum(Bound::Rows(4)), &log, &mut slot)
+            .unwrap_err()
+            .to_string(),
+        "question 21 at index 5 got 'no': Does no earlier record have the same nine bytes?"
+    );
+
+    // A wrong record before the later twin comes first, one behind it does not.
+    let mut damaged = log.clone();
+    damaged.extend(&log[..9]);
+    damaged[6 * 9 + 2] = 8;
+    assert_eq!(asked(&damaged), refused(21, 5));
+    damaged[9 + 8] = 4;
+    assert_eq!(asked(&damaged), refused(9, 1));
+
+    // Too few and too many rows are asked for after the twins.
+    let few = pacer::query(sum(Bound::Rows(0)), &log, &mut slot).unwrap_err();
+    assert_eq!((few.question, few.index), (21, 5));
+    let wide = record(5, 0, 64, 9);
+    let frames = Rule::Every {
+        length: 1,
+        start: 0,
+    };
+    for (records, expected) in [(1, (20, 0)), (2, (21, 1))] {
+        let log = pacer::log(&vec![wide; records]).unwrap();
+        let many = pacer::query(sum(frames), &log, &mut slot).unwrap_err();
+        assert_eq!((many.question, many.index), expected);
+    }
+}
+
+/// Each record in the place of each later one, among 128 of which no two are equal.
+#[test]
+fn every_pair_of_places() {
+    let records: Vec<Record> = (0..128)
+        .map(|i| record((i % 8) as u8, 300 + i / 8 % 2, 700 - i / 16 % 2, i / 32 % 4))
+        .collect();
+    let log = pacer::log(&records).unwrap();
+    assert_eq!(asked(&log), Ok(()));
+    let mut buffer = vec![0; log.len()];
+    for later in 1..RECORDS {
+        for earlier in 0..later {
+            let mut twin = log.clone();
+            twin.copy_within(9 * earlier..9 * earlier + 9, 9 * later);
+            let mut list = [Segment::default(); SEGMENT_PLACES];
+            let refusal = pacer::segments(&twin, Kind::COUNT, &mut list).unwrap_err();
+            assert_eq!((refusal.question, refusal.index), (21, later));
+            // All but the later one stay.
+            assert_eq!(pacer::without_twins(&twin, &mut buffer), Ok(127 * 9));
+            assert_eq!(buffer[..9 * later], log[..9 * later]);
+            assert_eq!(buffer[9 * later..127 * 9], log[9 * later + 9..]);
+        }
+    }
+}
+
+/// The call for logs on file: what it keeps, and where.
+#[test]
+fn logs_on_file() {
+    let log = restarted();
+    for length in [54, 55, 63, 100] {
+        let mut buffer = vec![0xAA; length];
+        assert_eq!(pacer::without_twins(&log, &mut buffer), Ok(45));
+        assert_eq!(buffer[..45], log_g());
+        assert!(buffer[45..].iter().all(|byte| *byte == 0xAA));
+        // Once more changes nothing.
+        let mut again = [0; 45];
+        assert_eq!(pacer::without_twins(&buffer[..45], &mut again), Ok(45));
+        assert_eq!(again, buffer[..45]);
+        let mut slot = [0; SLOT_BYTES];
+        pacer::query(sum(Bound::Rows(4)), &again, &mut slot).unwrap();
+        assert_eq!(pacer::read(&slot).unwrap().rows(), ROWS_OF_G);
+    }
+    assert_eq!(pacer::without_twins(&[], &mut []), Ok(0));
+
+    let mut buffer = [0xAA; 9 * RECORDS + 1];
+    let equal = log[..9].repeat(RECORDS);
+    assert_eq!(pacer::without_twins(&equal, &mut buffer), Ok(9));
+    assert_eq!(buffer[..9], log[..9]);
+    assert_eq!(buffer[9..], [0xAA; 9 * RECORDS - 8]);
+}
+
+/// The call for logs on file asks 1 and 4 to 9, and leaves the buffer as it was.
+#[test]
+fn refused_logs_on_file() {
+    let log = restarted();
+    let mut buffer = [0xAA; 9 * 129];
+    let mut refused = |log: &[u8], length| {
+        let refusal = pacer::without_twins(log, &mut buffer[..length]).unwrap_err();
+        assert_eq!(buffer, [0xAA; 9 * 129]);
+        (refusal.question, refusal.index)
+    };
+    // A buffer that what is kept would fit in is too short all the same.
+    assert_eq!(refused(&log, 53), (1, 0));
+    assert_eq!(refused(&log, 45), (1, 0));
+    assert_eq!(refused(&log[..53], 52), (1, 0));
+    assert_eq!(refused(&log[..53], 53), (4, 0));
+    let many = log[..9].repeat(129);
+    assert_eq!(refused(&many, 9 * 129 - 1), (1, 0));
+    assert_eq!(refused(&many, 9 * 129), (5, 0));
+    for (byte, content, question) in [(0, 0x4D, 6), (1, 0x48, 6), (2, 8, 7), (3, 1, 8), (8, 4, 9)] {
+        for index in [4, 5] {
+            let mut damaged = log.clone();
+            damaged[9 * index + byte] = content;
+            assert_eq!(refused(&damaged, 54), (question, index));
+        }
+    }
 }

@@ -1,5 +1,8 @@
 //! Rows by beats and by scenes, through the safe functions and the C functions beneath them.
 
+mod cases;
+
+use cases::bytes;
 use pacer::c;
 use pacer::{Bound, Header, Kind, Query, Record, Refusal, Row, Rule, Scene, Walker};
 use pacer::{ROWS, SCENES, SLOT_BYTES};
@@ -68,18 +71,6 @@ fn frames(word: &str) -> Vec<u16> {
         .collect()
 }
 
-/// Bytes in the file of cases.
-fn bytes(word: &str) -> Vec<u8> {
-    if word == "-" {
-        return Vec::new();
-    }
-    let digits: Vec<char> = word.chars().collect();
-    digits
-        .chunks(2)
-        .map(|pair| u8::from_str_radix(&String::from_iter(pair), 16).unwrap())
-        .collect()
-}
-
 /// The bytes of a slot before a query.
 fn noise() -> Vec<u8> {
     (0..SLOT_BYTES + 5)
@@ -90,7 +81,7 @@ fn noise() -> Vec<u8> {
 /// The queries that `tools/expected.py` worked out: the answer and every byte of the slot.
 #[test]
 fn as_worked_out() {
-    let mut counted = [0; 21];
+    let mut counted = [0; 22];
     let lines = include_str!("windows.cases").lines();
     for line in lines.filter(|line| !line.starts_with('#')) {
         let (asked, answer) = line.split_once(": ").unwrap();
@@ -162,7 +153,7 @@ fn as_worked_out() {
         }
         counted[usize::from(question)] += 1;
     }
-    for question in [0, 2, 4, 5, 6, 7, 8, 9, 18, 19, 20] {
+    for question in [0, 2, 4, 5, 6, 7, 8, 9, 18, 19, 20, 21] {
         assert!(counted[question] > 0, "no case for {question}");
     }
 }

@@ -1,4 +1,5 @@
-//! Demand 3 by trying every list of rows, and rows by windows by going through the frames.
+//! Demand 3 by trying every list of rows, rows by windows by going through the frames, and twins by
+//! holding every record to every earlier one.
 //!
 //! Nothing here knows segments or blocks: a log is its covered frames with their values, a list
 //! of rows is any cutting of these frames, and a row's number is tried out. By the kind of the
@@ -258,8 +259,8 @@ fn blocks<'a>(
 }
 
 /// The rows of some windows, by going through the frames of each and noting the places of the
-/// group's records that contain the frame. A record that is met at several frames is noted once,
-/// and equal records each. For few and short windows.
+/// group's records that contain the frame. A record that is met at several frames is noted once. For
+/// few and short windows.
 pub fn rows_by_frames(records: &[Record], kind: u8, windows: &[Window]) -> Vec<Stretch> {
     let mut rows = Vec::new();
     for group in 0..8 {
@@ -289,11 +290,63 @@ pub fn rows_by_frames(records: &[Record], kind: u8, windows: &[Window]) -> Vec<S
     rows
 }
 
+/// The places of a log's whole records that an earlier one equals in all nine bytes, by comparing
+/// each pair byte by byte.
+pub fn later_twins(log: &[u8]) -> Vec<usize> {
+    let equal =
+        |one: usize, other: usize| (0..9).all(|at| log[9 * one + at] == log[9 * other + at]);
+    (0..log.len() / 9)
+        .filter(|later| (0..*later).any(|earlier| equal(earlier, *later)))
+        .collect()
+}
+
 #[cfg(test)]
 mod tests {
     use super::*;
 
-    /// Records that meet a window at one end, across it, within it and not; twins count twice.
+    /// All logs of up to six of three records, one of which is bad: the first twin is refused where
+    /// no bad record is, and what is kept of a log without a bad one has no twins.
+    #[test]
+    fn twins_by_pairs() {
+        let record = |load| crate::write_record(2, 3, 4, load, 9).unwrap();
+        let mut bad = record(7);
+        bad[2] = 8;
+        let records = [record(7), record(8), bad];
+        for count in 0..=6 {
+            for choice in 0..3usize.pow(count) {
+                let chosen = (0..count).map(|place| choice / 3usize.pow(place) % 3);
+                let log: Vec<u8> = chosen
+                    .clone()
+                    .flat_map(|one| records[one].clone())
+                    .collect();
+                let twins = later_twins(&log);
+                let wrong = chosen.clone().position(|one| one == 2);
+                let asked = crate::ask_log(&log).map_err(|no| (no.question, no.index));
+                match (wrong, twins.first()) {
+                    (Some(bad), Some(twin)) if twin < &bad => assert_eq!(asked, Err((21, *twin))),
+                    (Some(bad), _) => assert_eq!(asked, Err((7, bad))),
+                    (None, Some(twin)) => assert_eq!(asked, Err((21, *twin))),
+                    (None, None) => assert_eq!(asked, Ok(())),
+                }
+                let kept = crate::without_twins(&log, log.len());
+                if let Some(bad) = wrong {
+                    assert_eq!(kept.map_err(|no| (no.question, no.index)), Err((7, bad)));
+                    continue;
+                }
+                let kept = kept.unwrap();
+                assert_eq!(later_twins(&kept), []);
+                assert_eq!(kept.len(), log.len() - 9 * twins.len());
+                let left: Vec<u8> = (0..log.len() / 9)
+                    .filter(|place| !twins.contains(place))
+                    .flat_map(|place| log[9 * place..9 * place + 9].to_vec())
+                    .collect();
+                assert_eq!(kept, left);
+            }
+        }
+    }
+
+    /// Records that meet a window at one end, across it, within it and not; two of the same load
+    /// both count.
     #[test]
     fn window_by_frames() {
         let record = |group, first, last, load| Record {
@@ -311,7 +364,7 @@ mod tests {
             record(3, 0, 20, 16),
             record(3, 12, 12, 32),
             record(3, 13, 14, 64),
-            record(3, 12, 12, 32),
+            record(3, 11, 12, 32),
             record(4, 12, 12, 128),
         ];
         let windows = [(10, 12), (15, 19), (21, 30)];

@@ -4,15 +4,16 @@
 //! means differ where they can: segments are found frame by frame, not from event to event; the
 //! error of a block is summed over its segments, not computed from totals; the reduction is a
 //! plain table over all cuts, with no early exit, and the cuts that the paper's scan weighs are
-//! counted beside it. Rows by windows are found window by window, the empty ones included.
-//! [`brute`] goes further: it tries every list of rows for a small log, and goes through the frames
-//! of a window.
+//! counted beside it. Rows by windows are found window by window, the empty ones included. Twins are
+//! found in a set of the records' bytes. [`brute`] goes further: it tries every list of rows for a
+//! small log, goes through the frames of a window, and holds every record to every earlier one.
 
 #![forbid(unsafe_code)]
 
 pub mod brute;
 
 use std::cmp::Ordering;
+use std::collections::HashSet;
 
 /// The bound is a row limit.
 pub const ROWS: u8 = 0x52;
@@ -98,8 +99,22 @@ fn ask(questions: impl IntoIterator<Item = Question>) -> Result<(), No> {
     }
 }
 
-/// Questions 4 to 9.
+/// Questions 4 to 9, and 21 of each record after its 9.
 fn log_questions(log: &[u8]) -> Vec<Question> {
+    let mut questions = Vec::new();
+    let mut earlier = HashSet::new();
+    let mut nines = log.chunks_exact(9);
+    for (question, index, yes) in file_questions(log) {
+        questions.push((question, index, yes));
+        if question == 9 {
+            questions.push((21, index, earlier.insert(nines.next())));
+        }
+    }
+    questions
+}
+
+/// Questions 4 to 9: those of a log on file, which may have twins.
+fn file_questions(log: &[u8]) -> Vec<Question> {
     let mut questions = vec![
         (4, 0, log.len().is_multiple_of(9)),
         (5, 0, log.len() / 9 <= 128),
@@ -111,6 +126,12 @@ fn log_questions(log: &[u8]) -> Vec<Question> {
         questions.push((9, index, record.load <= 1000));
     }
     questions
+}
+
+/// The first of a log's own questions that got 'no', whichever call takes it but that for logs on
+/// file.
+pub fn ask_log(log: &[u8]) -> Result<(), No> {
+    ask(log_questions(log))
 }
 
 /// Questions 1 and 11 to 17.
@@ -237,7 +258,7 @@ pub fn segments_of(records: &[Record], kind: u8) -> Vec<Stretch> {
 /// The segment call: the segments, or the first question that got 'no'.
 pub fn segments(log: &[u8], kind: u8, places: usize) -> Result<Vec<Stretch>, No> {
     ask([(1, 0, places >= 255), (2, 0, kind <= MOST_KIND)])?;
-    ask(log_questions(log))?;
+    ask_log(log)?;
     Ok(segments_of(&records(log), kind))
 }
 
@@ -524,7 +545,7 @@ pub fn query(
         (2, 0, kind <= MOST_KIND),
         (3, 0, bounded(rule, bound)),
     ])?;
-    ask(log_questions(log))?;
+    ask_log(log)?;
     reduce(&segments_of(&records(log), kind), kind, rule, bound).ok_or(No {
         question: 10,
         index: 0,
@@ -607,7 +628,7 @@ pub fn query_beats(
         (2, 0, kind <= MOST_KIND),
         (18, 0, length >= 1),
     ])?;
-    ask(log_questions(log))?;
+    ask_log(log)?;
     ask_rows(window_rows(&records(log), kind, &beats(length, start)))
 }
 
@@ -624,9 +645,22 @@ pub fn query_scenes(
         (2, 0, kind <= MOST_KIND),
         (19, 0, in_order(firsts, lasts)),
     ])?;
-    ask(log_questions(log))?;
+    ask_log(log)?;
     let scenes: Vec<Window> = firsts.iter().copied().zip(lasts.iter().copied()).collect();
     ask_rows(window_rows(&records(log), kind, &scenes))
+}
+
+// ---------------------------------------------------------------------------------------------
+// Logs on file
+
+/// The call for logs on file, with a buffer of some length: the first of equal records and all
+/// others in their order, or the first question that got 'no'.
+pub fn without_twins(log: &[u8], room: usize) -> Result<Vec<u8>, No> {
+    ask([(1, 0, room >= log.len())])?;
+    ask(file_questions(log))?;
+    let mut kept = HashSet::new();
+    let first = log.chunks_exact(9).filter(|nine| kept.insert(*nine));
+    Ok(first.flatten().copied().collect())
 }
 
 // ---------------------------------------------------------------------------------------------
@@ -924,6 +958,97 @@ mod tests {
         let wide = log(&[(0, 0, 63, 1), (1, 5, 5, 1)]);
         assert_eq!(beats(1, &wide[..9]).unwrap().len(), 64);
         assert_eq!(beats(1, &wide).unwrap_err().question, 20);
+    }
+
+    /// A record that an earlier one equals is refused by every call that takes a log, at its own
+    /// index, after its other questions and ahead of 10 and 20.
+    #[test]
+    fn twins_refused() {
+        let g = log_g();
+        let no = |question, index| No { question, index };
+        for again in g.chunks(9) {
+            let twice = [&g, again].concat();
+            for kind in 0..=MOST_KIND {
+                let refused = no(21, 5);
+                assert_eq!(segments(&twice, kind, 255), Err(refused));
+                assert_eq!(query(kind, ROWS, 0, &twice, 768), Err(refused));
+                assert_eq!(query(kind, SHARE, 300, &twice, 768), Err(refused));
+                assert_eq!(query_beats(kind, 1, 0, &twice, 768), Err(refused));
+                assert_eq!(query_scenes(kind, &[0], &[9], &twice, 768), Err(refused));
+            }
+            assert_eq!(ask_log(&[again, again, again].concat()), Err(no(21, 1)));
+        }
+        let wide = log(&[(0, 0, 64, 1), (0, 0, 64, 1)]);
+        assert_eq!(query_beats(0, 1, 0, &wide, 768), Err(no(21, 1)));
+        assert_eq!(query_beats(0, 1, 0, &wide[..9], 768), Err(no(20, 0)));
+        // Ahead of 21: the call's own questions, the length, the count, and a bad record before.
+        assert_eq!(query(5, ROWS, 65, &wide, 768), Err(no(2, 0)));
+        assert_eq!(query(0, ROWS, 65, &wide, 768), Err(no(3, 0)));
+        assert_eq!(query_beats(0, 0, 0, &wide, 768), Err(no(18, 0)));
+        assert_eq!(query_scenes(0, &[1], &[0], &wide, 768), Err(no(19, 0)));
+        assert_eq!(ask_log(&[&wide[..], &[0x4C]].concat()), Err(no(4, 0)));
+        assert_eq!(ask_log(&wide[..9].repeat(129)), Err(no(5, 0)));
+        let good = &wide[..9];
+        for (question, place, byte) in [(6, 1, 0), (7, 2, 8), (8, 4, 1), (9, 8, 4)] {
+            let mut bad = good.to_vec();
+            bad[place] = byte;
+            let log = |records: &[&[u8]]| ask_log(&records.concat()).unwrap_err();
+            assert_eq!(log(&[good, &bad, good]), no(question, 1));
+            assert_eq!(log(&[good, good, &bad]), no(21, 1));
+            assert_eq!(log(&[good, &bad, &bad]), no(question, 1));
+        }
+    }
+
+    /// Equal but for one byte is not equal.
+    #[test]
+    fn nearly_twins() {
+        let one = log(&[(1, 0x012C, 0x0384, 0x01F4)]);
+        let others = log(&[
+            (2, 0x012C, 0x0384, 0x01F4),
+            (1, 0x012D, 0x0384, 0x01F4),
+            (1, 0x002C, 0x0384, 0x01F4),
+            (1, 0x012C, 0x0385, 0x01F4),
+            (1, 0x012C, 0x0484, 0x01F4),
+            (1, 0x012C, 0x0384, 0x01F5),
+            (1, 0x012C, 0x0384, 0x00F4),
+        ]);
+        for (place, other) in (2..).zip(others.chunks(9)) {
+            let differ: Vec<usize> = (0..9).filter(|at| one[*at] != other[*at]).collect();
+            assert_eq!(differ, [place]);
+        }
+        let all = [&one[..], &others].concat();
+        assert_eq!(ask_log(&all), Ok(()));
+        assert_eq!(without_twins(&all, 72), Ok(all));
+    }
+
+    /// What is kept of a log on file, and what it is asked.
+    #[test]
+    fn kept_of_a_file() {
+        let g = log_g();
+        assert_eq!(without_twins(&g, 45), Ok(g.clone()));
+        assert_eq!(without_twins(&[], 0), Ok(vec![]));
+        assert_eq!(without_twins(&g.repeat(3), 135), Ok(g.clone()));
+        assert_eq!(
+            without_twins(&g[..9].repeat(128), 1152),
+            Ok(g[..9].to_vec())
+        );
+        let nines: Vec<&[u8]> = g.chunks(9).collect();
+        let of = |places: &[usize]| -> Vec<u8> {
+            let records: Vec<&[u8]> = places.iter().map(|place| nines[*place]).collect();
+            records.concat()
+        };
+        let found = without_twins(&of(&[1, 0, 1, 2, 0, 4]), 99);
+        assert_eq!(found, Ok(of(&[1, 0, 2, 4])));
+        let question = |log: &[u8], room| without_twins(log, room).unwrap_err();
+        let no = |question, index| No { question, index };
+        assert_eq!(question(&g, 44), no(1, 0));
+        assert_eq!(question(&g[..44], 44), no(4, 0));
+        assert_eq!(question(&g[..9].repeat(129), 2000), no(5, 0));
+        let mut bad = g.repeat(2);
+        bad[9 * 7 + 2] = 8;
+        assert_eq!(question(&bad, 90), no(7, 7));
+        bad[9 * 7] = 0;
+        assert_eq!(question(&bad, 90), no(6, 7));
     }
 
     /// Both headers; an error under that of windows is asked of after the rows.

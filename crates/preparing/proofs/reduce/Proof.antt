@@ -9,7 +9,7 @@ use Rattle.model.specs.Spans.{Span}
 use Rattle.model.specs.Log.{records}
 use Rattle.model.specs.Segments.{segments}
 use Rattle.model.specs.Slot.{slotLength, byBound}
-use Rattle.model.specs.Split.{reduced, countFor}
+use Rattle.model.specs.Split.{mostRows, reduced, countFor}
 use Rattle.model.specs.Questions.{ask, logQuestions, orderQuestions}
 use Rattle.model.specs.Calls.{logSegments}
 use Rattle.model.specs.Arrays.{spanIn, spansIn, column, recordsIn, segmentsIn, segmentArrays}
@@ -22,7 +22,8 @@ use Rattle.log.proofs.Asking.{few-records, decoded-count}
 use Rattle.log.proofs.Columns.{records-held, segments-held}
 use Rattle.measures.proofs.Growing.{measurable}
 use Rattle.preparing.specs.Prepared.{laidOut}
-use Rattle.preparing.proofs.Answering.{known-bound, limit-le}
+use Rattle.preparing.proofs.Answering.{known-bound}
+use Rattle.theory.proofs.Demands.{limit-le}
 use Rattle.preparing.proofs.Reducing.{Answers, answers, unanswered, laid-rows}
 use borrow.Author.Needs.{needs}
 use Rattle.preparing.proofs.reduce.Statement.{statement}
@@ -70,7 +71,7 @@ answer c =
 
 -- has at most 64 rows
 few : (c : tie.Else1) → c .before .before .reduce .result .count ≤ 64
-unfolding orderQuestions ask logSegments
+unfolding orderQuestions ask logSegments mostRows
 few c =
     let f = c .before .before .before .before .before .before .before .before in
     let s = (Decoded f) .before .before in

@@ -8,7 +8,8 @@ use borrow.Author.Tests.{lt-leb}
 use Rattle.model.specs.Common.{every}
 use Rattle.model.specs.Questions.{sceneKnown, scenesKnown, mostScenes}
 use Rattle.theory.proofs.Lists.{all-left}
-use Rattle.rules.proofs.Known.{every-more, every-done, some-scenes}
+use Rattle.theory.proofs.Every.{every-more, every-done}
+use Rattle.rules.proofs.Known.{some-scenes}
 use Rattle.rules.proofs.scenes_are_known.Statement.{statement}
 use Rattle.rules.proofs.scenes_are_known.Tie as tie
 

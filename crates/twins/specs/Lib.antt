@@ -1,0 +1,2 @@
+-- The keys of records.
+pub mod Keys

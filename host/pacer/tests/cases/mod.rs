@@ -1,0 +1,13 @@
+//! What the tests share that read a file of cases.
+
+/// Bytes in the file of cases.
+pub fn bytes(word: &str) -> Vec<u8> {
+    if word == "-" {
+        return Vec::new();
+    }
+    let digits: Vec<char> = word.chars().collect();
+    digits
+        .chunks(2)
+        .map(|pair| u8::from_str_radix(&String::from_iter(pair), 16).unwrap())
+        .collect()
+}
