@@ -13,15 +13,13 @@ use lib.ListN.{length, getD, set, take, drop, replicate, length-replicate, lengt
 use lib.Seq.{take-at, drop-drop, drop-append-add}
 use Rattle.model.specs.Common.{every, listFrom, joined, numberAt}
 use Rattle.model.specs.Log.{recordLength, recordPart, twins, isFirst, firstsOf}
-use Rattle.model.specs.Questions.{refused, accepted, ask, outcome, each, marked, recordQuestions, twinQuestions}
-use Rattle.model.specs.Demands.{AllPass}
-use Rattle.theory.proofs.Tests.{true≢false, cases, and-true, is-false}
+use Rattle.model.specs.Questions.{refused, accepted, ask, outcome, twinQuestions}
+use Rattle.theory.proofs.Tests.{true≢false, cases, is-false}
 use Rattle.theory.proofs.Lists.{listFrom-snoc, after-set, copied-part}
 use Rattle.theory.proofs.Every.{every-at, every-of, every-same}
 use Rattle.theory.proofs.Twins.{length-part}
 use Rattle.theory.proofs.Asking.{answer}
-use Rattle.theory.proofs.Refusals.{all-at, all-head}
-use Rattle.twins.specs.Keys.{keyOf, newIn, Noted, keptOf}
+use Rattle.twins.specs.Keys.{Begun, keyOf, newIn, Noted, keptOf}
 
 -- ---- tests of numbers
 
@@ -55,14 +53,11 @@ module _ (bytes : List ℕ) (known : (i : ℕ) → getD bytes i 0 < 256) where
 
 -- ---- equal records and equal keys
 
-module _ (log : List ℕ) (known : (i : ℕ) → getD log i 0 < 256) (count : ℕ) (passed : AllPass (each (recordQuestions log) 0 count)) where
+module _ (log : List ℕ) (known : (i : ℕ) → getD log i 0 < 256) (count : ℕ) (begun : Begun log count) where
   -- each record begins with the same byte
   first-byte : (i : ℕ) → i < count → getD log (9 * i + 0) 0 ≡ 0x4C
-  unfolding recordQuestions marked recordLength ask
-  first-byte i lt =
-      let here : 9 * i + 0 ≡ 9 * i = omega arith in
-      let six = all-head _ _ (all-at (recordQuestions log) 0 count passed i (omega arith) (omega arith)) in
-      rw here (eqb-true _ _ (and-true (eqb (getD log (9 * i) 0) 0x4C) (eqb (getD log (suc (9 * i)) 0) 0x44) six .0))
+  unfolding recordLength
+  first-byte i lt = let here : 9 * i + 0 ≡ 9 * i = omega arith in rw here (begun i lt)
 
   -- so the other bytes tell
   twins-keys : (j i : ℕ) → j < count → i < count → twins log j i ≡ eqb (keyOf log j) (keyOf log i)

@@ -8,6 +8,10 @@ use lib.ListN.{length, getD}
 use Rattle.model.specs.Common.{every, numberAt}
 use Rattle.model.specs.Log.{recordLength, recordPart}
 
+-- each of the first `count` records begins with the first byte of a mark, whatever the second one is
+abbrev pub Begun : List ℕ → ℕ → Type 0
+Begun log count = (i : ℕ) → i < count → getD log (recordLength * i) 0 ≡ 0x4C
+
 -- the last eight bytes of the record with index i, as one number
 unfoldable pub keyOf : List ℕ → ℕ → ℕ
 keyOf log i = numberAt 8 log (recordLength * i + 1)

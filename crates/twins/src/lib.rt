@@ -13,10 +13,9 @@ ghost use Prim.Native.Nat.{_+_, _*_, _<_, _≤_};
 ghost use lib.ListN.{length, take, drop};
 ghost use Rattle.model.specs.Common.{joined};
 ghost use Rattle.model.specs.Log.{recordPart, firstsOf};
-ghost use Rattle.model.specs.Questions.{outcome, each, recordQuestions, twinQuestions};
+ghost use Rattle.model.specs.Questions.{outcome, each, twinQuestions};
 ghost use Rattle.model.specs.Calls.{askedCase};
-ghost use Rattle.model.specs.Demands.{AllPass};
-ghost use Rattle.twins.specs.Keys.{keyOf, newIn, Noted, keptOf};
+ghost use Rattle.twins.specs.Keys.{Begun, keyOf, newIn, Noted, keptOf};
 
 // The places of remainders: a prime number, so that keys which differ by a fixed number have many remainders.
 const PLACES: usize = 1021;
@@ -65,9 +64,9 @@ fn is_new(log: &[u8], firsts: &mut [u8; PLACES], index: usize) -> bool
     differs(log, index)
 }
 
-// Question 21 of one record after the other, of the first `count`, which pass 6 to 9.
+// Question 21 of one record after the other, of the first `count`, which begin with the same byte.
 pub fn ask(log: &[u8], count: usize) -> Asked
-    requires { ⌜ (count ≤ 128) × (9 * count ≤ length (now log)) × AllPass (each (recordQuestions (now log)) 0 count) ⌝ }
+    requires { ⌜ (count ≤ 128) × (9 * count ≤ length (now log)) × Begun (now log) count ⌝ }
     ensures { λ r. ⌜ askedCase r ≡ outcome (each (twinQuestions (now (log .entry))) 0 count) tt ⌝ }
 {
     let mut firsts = [0u8; PLACES];
@@ -94,10 +93,10 @@ fn put(log: &[u8], index: usize, buffer: &mut [u8], at: usize, chosen: bool) -> 
     at
 }
 
-// Writes the first of equal records and the others in their order to the front of a buffer, of the first `count`, which pass 6 to 9,
-// and tells how many bytes they are.
+// Writes the first of equal records and the others in their order to the front of a buffer, of the first `count`, which begin with the
+// same byte, and tells how many bytes they are.
 pub fn keep(log: &[u8], count: usize, buffer: &mut [u8]) -> usize
-    requires { ⌜ (count ≤ 128) × (9 * count ≤ length (now log)) × (9 * count ≤ length (now buffer)) × AllPass (each (recordQuestions (now log)) 0 count) ⌝ }
+    requires { ⌜ (count ≤ 128) × (9 * count ≤ length (now log)) × (9 * count ≤ length (now buffer)) × Begun (now log) count ⌝ }
     ensures { λ r. ⌜ r ≡ length (joined (recordPart (now (log .entry))) (firstsOf (now (log .entry)) count)) ⌝ }
     ensures { λ r. ⌜ now (buffer .exit) ≡ joined (recordPart (now (log .entry))) (firstsOf (now (log .entry)) count) ++ drop r (now (buffer .entry)) ⌝ }
 {
