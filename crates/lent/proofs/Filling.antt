@@ -18,6 +18,7 @@ use Rattle.model.specs.declared.Segment.{Segment}
 use Rattle.model.specs.declared.Segments.{Segments}
 use Rattle.theory.proofs.Tests.{cases}
 use Rattle.theory.proofs.Refusals.{all-head, all-tail, outcome-accepted, all-lent, refused-lent}
+use Rattle.theory.proofs.Asking.{file-passed}
 use Rattle.theory.proofs.Count.{segment-count}
 use Rattle.theory.proofs.SlotLaws.{length-listFrom}
 use Rattle.log.proofs.Columns.{segments-held}
@@ -49,7 +50,7 @@ found-few : (kind : ℕ) (log : List ℕ) (places : ℕ) → (length (found kind
 unfolding segmentsQuestions askRoom ask
 found-few kind log places =
     lent-few (segmentsQuestions kind log places) (logSegments kind log) mostSegments places (λ all.
-    let few = segment-count kind log (all-tail _ _ (all-tail _ _ all)) in
+    let few = segment-count kind log (file-passed log (all-tail _ _ (all-tail _ _ all))) in
     let room = leb-true mostSegments places (all-head _ _ all) in
     (few, omega (arith, few, room)))
 

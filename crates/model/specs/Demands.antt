@@ -166,11 +166,12 @@ pub record Reads (slot : List ℕ) (mark kind error : ℕ) (rows : List (Span �
 
 pub record Demand2 : Type 0 where
   pub segmentation : (kind : ℕ) (log : List ℕ) → Segmentation (value kind (records log)) (logSegments kind log)
-  pub count : (kind : ℕ) (log : List ℕ) → AllPass (logQuestions log) → length (logSegments kind log) ≤ mostSegments
+  -- these hold of every log that passes 4 to 9, with twins or without
+  pub count : (kind : ℕ) (log : List ℕ) → AllPass (fileQuestions log) → length (logSegments kind log) ≤ mostSegments
   -- kind 4 of a frame is the mean of the loads of the records that contain it
-  pub mean : (log : List ℕ) → AllPass (logQuestions log) → (g f v : ℕ) → value 4 (records log) g f ≡ some v
+  pub mean : (log : List ℕ) → AllPass (fileQuestions log) → (g f v : ℕ) → value 4 (records log) g f ≡ some v
       → MeanInHundredths (meeting (records log) g f f) v
-  pub conserved : (log : List ℕ) → Bytes log → AllPass (logQuestions log)
+  pub conserved : (log : List ℕ) → Bytes log → AllPass (fileQuestions log)
       → sumOf (λ s. spanLength s * s .value) (logSegments 0 log)
       ≡ sumOf (λ r. spanLength r * r .value) (records log)
   pub merging : (kind : ℕ) (log cuts : List ℕ)
@@ -195,10 +196,10 @@ pub record Demand2 : Type 0 where
       → Reads (querySlot q log slot) byBound (q .kind) ((answerOf q log) .error) ((answerOf q log) .rows)
   pub roundTrip : (mark kind error : ℕ) (rows : List (Span ℕ)) (rest : List ℕ) → Storable mark kind error rows
       → Reads (slotBytes mark kind error rows ++ rest) mark kind error rows
-  -- slots that were written before still read: with the lower number at a half and, whatever the kind, by the rule of any kind, as
-  -- those of kind 3 held nearest whole numbers at first
+  -- slots that were written before still read: of logs with twins too, with the lower number at a half and, whatever the kind, by
+  -- the rule of any kind, as those of kind 3 held nearest whole numbers at first
   pub stillRead : (rule kind : ℕ) (log cuts rest : List ℕ) (a : Reduced) → kindKnown kind ≡ true
-      → AllPass (logQuestions log) → LowerCut rule (logSegments kind log) a cuts
+      → AllPass (fileQuestions log) → LowerCut rule (logSegments kind log) a cuts
       → IsReduction (gapBelow (logSegments kind log)) (length (logSegments kind log)) cuts → length cuts ≤ mostRows
       → Reads (slotBytes byBound kind (a .error) (a .rows) ++ rest) byBound kind (a .error) (a .rows)
   pub layout : (slot : List ℕ) (header : Header) → Bytes slot → readOutcome slot ≡ accepted header
@@ -246,7 +247,8 @@ pub record TwinRecords : Type 0 where
   -- twice is once
   pub twice : (log : List ℕ) → withoutTwins (withoutTwins log) ≡ withoutTwins log
 
--- Halves go up: what the upper number at a half changes, and what comes out equal. What was before is in `LowerHalves`.
+-- Halves go up: what the upper number at a half changes, and what comes out equal. What was before is in `LowerHalves`, asked the
+-- questions of now.
 
 -- the mean of a block's values lies half way between k and k + 1
 abbrev pub HalfAbove : ℕ → List (Span ℕ) → Type 0

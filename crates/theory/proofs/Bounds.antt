@@ -22,14 +22,13 @@ use Rattle.model.specs.Blocks.{segmentAt, block, Totals, empty, totalsOf, add, 
 use Rattle.model.specs.Split.{errorOf}
 use Rattle.model.specs.Reductions.{IsReduction, reductionError}
 use Rattle.model.specs.Fitting.{overFrames}
-use Rattle.model.specs.Questions.{ask, groupKnown, spanQuestions, recordQuestions, fileQuestions, logQuestions, mostRecords, mostValue, mostSegments}
+use Rattle.model.specs.Questions.{ask, groupKnown, spanQuestions, recordQuestions, fileQuestions, mostRecords, mostValue, mostSegments}
 use Rattle.model.specs.Calls.{logSegments}
 use Rattle.model.specs.Room.{mostFrames, mostError, Room, Block, Measured}
 use Rattle.model.specs.Demands.{AllPass, MeanInHundredths}
 use Rattle.theory.proofs.Tests.{cases}
 use Rattle.theory.proofs.Sums.{sumFrom-const, sumOf-cong, sumOf-append, overFrames-le}
 use Rattle.theory.proofs.Refusals.{all-head, all-tail, all-at}
-use Rattle.theory.proofs.Asking.{file-passed}
 use Rattle.theory.proofs.SlotLaws.{listFrom-of, length-listFrom}
 use Rattle.theory.proofs.Frames.{worth, segments-weigh, segmentation}
 use Rattle.theory.proofs.Count.{segment-count}
@@ -55,12 +54,12 @@ sound-record log i all =
     )
 
 -- at most 128 records, each with a known group, a first frame not behind its last, and a load of at most 1,000
-pub sound-records : (log : List ℕ) → AllPass (logQuestions log)
+pub sound-records : (log : List ℕ) → AllPass (fileQuestions log)
     → (length (records log) ≤ mostRecords)
     × ((r : Span ℕ) → List·Memᴰ r (records log) → (r .group ≤ 7) × (r .first ≤ r .last) × (r .value ≤ 1000))
 unfolding fileQuestions records ask
 sound-records log all =
-    let rest = all-tail _ _ (file-passed log all) in (
+    let rest = all-tail _ _ all in (
       rw (length-listFrom 0 (recordCount log) (λ i. recordAt log (recordLength * i)))
           (leb-true (recordCount log) mostRecords (all-head _ _ rest)),
       λ r m.
@@ -170,7 +169,7 @@ module _ (kind : ℕ) (rs : List (Span ℕ)) (few : length rs ≤ mostRecords)
       (segmentation kind rs .constant s m (s .first) (le-refl _) (segmentation kind rs .ordered s m))
 
 -- kind 4 is the mean in hundredths
-pub mean : (log : List ℕ) → AllPass (logQuestions log) → (g f v : ℕ) → value 4 (records log) g f ≡ some v
+pub mean : (log : List ℕ) → AllPass (fileQuestions log) → (g f v : ℕ) → value 4 (records log) g f ≡ some v
     → MeanInHundredths (meeting (records log) g f f) v
 mean log all g f v e =
     let (few, sound) = sound-records log all in
@@ -212,7 +211,7 @@ squared-le v r small low =
 -- ---- measured segments
 
 -- the segments of a log whose questions are passed are measured
-pub logs-measured : (kind : ℕ) (log : List ℕ) → AllPass (logQuestions log) → Measured (logSegments kind log)
+pub logs-measured : (kind : ℕ) (log : List ℕ) → AllPass (fileQuestions log) → Measured (logSegments kind log)
 unfolding logSegments groupCount frameCount mostSegments
 logs-measured kind log all =
     let sound = sound-records log all in

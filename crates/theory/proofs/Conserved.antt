@@ -12,14 +12,13 @@ use Rattle.model.specs.Common.{sumOf, numberAt}
 use Rattle.model.specs.Spans.{Span, groupCount, frameCount, spanLength, meets, holds}
 use Rattle.model.specs.Log.{recordLength, recordAt, recordCount, records, meeting, sum, aggregate, aggregated, value}
 use Rattle.model.specs.Segments.{segments}
-use Rattle.model.specs.Questions.{ask, groupKnown, spanQuestions, recordQuestions, fileQuestions, logQuestions}
+use Rattle.model.specs.Questions.{ask, groupKnown, spanQuestions, recordQuestions, fileQuestions}
 use Rattle.model.specs.Calls.{logSegments}
 use Rattle.model.specs.Demands.{AllPass, Bytes}
 use Rattle.theory.proofs.Tests.{cases, true-and}
 use Rattle.theory.proofs.Sums.{sumOf-cong, overFrames-cong, overFrames-sumOf, overFrames-holds}
 use Rattle.theory.proofs.Frames.{worth, segments-weigh}
 use Rattle.theory.proofs.Converse.{member-listFrom}
-use Rattle.theory.proofs.Asking.{file-passed}
 use Rattle.theory.proofs.Refusals.{all-head, all-tail, all-at}
 
 -- ---- the value of a frame
@@ -72,12 +71,12 @@ record-inside log small i all =
     (omega arith, two-bytes log (recordLength * i + 5) small)
 
 -- demand 2, `conserved`
-pub conserved : (log : List ℕ) → Bytes log → AllPass (logQuestions log)
+pub conserved : (log : List ℕ) → Bytes log → AllPass (fileQuestions log)
     → sumOf (λ s. spanLength s * s .value) (logSegments 0 log) ≡ sumOf (λ r. spanLength r * r .value) (records log)
 unfolding logSegments records fileQuestions
 conserved log small all =
     loads-conserved (records log)
     (λ r m.
     let x = member-listFrom (λ i. recordAt log (recordLength * i)) 0 (recordCount log) r m in
-    let asked = all-at (recordQuestions log) 0 (recordCount log) (all-tail _ _ (all-tail _ _ (file-passed log all))) in
+    let asked = all-at (recordQuestions log) 0 (recordCount log) (all-tail _ _ (all-tail _ _ all)) in
     rw (x .3) (record-inside log small (x .0) (asked (x .0) (x .1) (x .2))))

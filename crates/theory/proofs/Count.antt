@@ -15,7 +15,7 @@ use Rattle.model.specs.Common.{sumOf}
 use Rattle.model.specs.Spans.{Span, groupCount, frameCount, holds, adjacent}
 use Rattle.model.specs.Log.{recordCount, records, meeting, aggregated, value}
 use Rattle.model.specs.Segments.{join, fuse, place, framesFrom, groupsFrom, segmentsOf, segments}
-use Rattle.model.specs.Questions.{ask, mostRecords, mostSegments, logQuestions}
+use Rattle.model.specs.Questions.{ask, mostRecords, mostSegments, fileQuestions}
 use Rattle.model.specs.Calls.{logSegments}
 use Rattle.model.specs.Demands.{AllPass}
 use Rattle.theory.proofs.Tests.{cases, and-true, true-and, true≢false, holds-true, true-holds, true-adjacent, none≢some}
@@ -360,9 +360,9 @@ unfolding records
 length-records log = length-listFrom 0 (recordCount log) _
 
 -- an accepted log has at most 255 segments
-pub segment-count : (kind : ℕ) (log : List ℕ) → AllPass (logQuestions log)
+pub segment-count : (kind : ℕ) (log : List ℕ) → AllPass (fileQuestions log)
     → length (logSegments kind log) ≤ mostSegments
-unfolding logSegments logQuestions ask mostRecords mostSegments
+unfolding logSegments fileQuestions ask mostRecords mostSegments
 segment-count kind log all =
     let few = leb-true (recordCount log) 128 (all-head _ _ (all-tail _ _ all)) in
     let count = length-records log in

@@ -18,7 +18,7 @@ use Rattle.model.specs.Reductions.{IsReduction, reductionError}
 use Rattle.model.specs.Windows.{boundIn}
 use Rattle.model.specs.Slot.{slotLength, byBound, byWindows, slotBytes}
 use Rattle.model.specs.Questions.{withBound, windowRows, ruleQuestion, ruledOrder}
-use Rattle.model.specs.Questions.{Question, Outcome, accepted, ask, outcome, lent, kindKnown, boundKnown, mostValue, logQuestions, orderQuestions, queryQuestions, enoughRows}
+use Rattle.model.specs.Questions.{Question, Outcome, accepted, ask, outcome, lent, kindKnown, boundKnown, mostValue, fileQuestions, orderQuestions, queryQuestions, enoughRows}
 use Rattle.model.specs.Calls.{Counts, logSegments, answerOf, countsOf, queryOutcome, querySlot, readRows}
 use Rattle.model.specs.Calls.{ruledAnswer, ruledMark, ruledOutcome, ruledSlot}
 use Rattle.model.specs.Calls.{cutsWeighed, queryWeighed, boundOf, letterQuestions, letterOutcome, letterSlot, letterWeighed}
@@ -33,6 +33,7 @@ use Rattle.model.specs.declared.Query.{Query}
 use Rattle.model.specs.declared.RuledQuery.{RuledQuery}
 use Rattle.theory.proofs.Refusals.{all-head, all-tail, all-lent, lent-same, outcome-accepted, accepted-query, too-few}
 use Rattle.theory.proofs.Refusals as refusals
+use Rattle.theory.proofs.Asking.{file-passed}
 use Rattle.theory.proofs.Tests.{cases, is-some}
 use Rattle.theory.proofs.RowValues.{row-le, row-between, row-above, row-least}
 use Rattle.theory.proofs.SlotLaws.{round-trip, layout}
@@ -121,7 +122,7 @@ slot-never-short q log slot b = rw (b .reads .body) (best-never-short q log (b .
 
 -- the rows and error of a reduction of a log's segments, by any rule for row values that is in range and has the errors of a kind's
 cut-storable : (rule kind : ℕ) (log cuts : List ℕ) (a : Reduced) {valueOf : List (Span ℕ) → ℕ} {err : ℕ → ℕ → ℕ} → InRange valueOf
-    → err ≡ errorOf rule (logSegments kind log) → kindKnown kind ≡ true → AllPass (logQuestions log)
+    → err ≡ errorOf rule (logSegments kind log) → kindKnown kind ≡ true → AllPass (fileQuestions log)
     → CutBy valueOf err (logSegments kind log) a cuts
     → IsReduction (gapBelow (logSegments kind log)) (length (logSegments kind log)) cuts → length cuts ≤ mostRows
     → Storable byBound kind (a .error) (a .rows)
@@ -162,7 +163,7 @@ module _ (q : Query) (log slot : List ℕ) (counts : Counts) (ok : queryOutcome 
   unfolding orderQuestions logSegments ask
   storable =
       let (room, order, enough, same) = accepted-query q log (length slot) counts ok in
-      let logged : AllPass (logQuestions log) = all-tail _ _ (all-tail _ _ order) in
+      let logged = file-passed log (all-tail _ _ (all-tail _ _ order)) in
       let limit = limit-le (q .bound) (all-head _ _ (all-tail _ _ order)) in
       let at-most = count-le (q .kind) (records log) (q .bound) (a .rows) (a .counted) in
       let counted = a .count in
@@ -202,7 +203,7 @@ module _ (q : RuledQuery) (windowed : boundIn (q .rule) ≡ none) (log slot : Li
         known = all-head _ _ order;
         error64 = omega arith;
         count = few;
-        rowsKnown = window-rows-known q log windowed passes (all-tail _ _ (all-tail _ _ order));
+        rowsKnown = window-rows-known q log windowed passes (file-passed log (all-tail _ _ (all-tail _ _ order)));
         sorted = window-rows-sorted q log windowed passes;
       }
 

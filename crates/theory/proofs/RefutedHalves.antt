@@ -16,7 +16,7 @@ use Rattle.model.specs.Blocks.{segmentAt, gap, lastGap, runsTo, block, empty, t
 use Rattle.model.specs.Split.{untried, plus, below, exceeds, weigh, scan, single, cell, least, weighed, cutsOf, rowsOf, fewest, chosen, rowsTried, Reduced, mostRows, gapBelow, runs}
 use Rattle.model.specs.Reductions.{IsReduction, reductionError}
 use Rattle.model.specs.Slot.{slotLength, byBound, slotBytes}
-use Rattle.model.specs.Questions.{Outcome, refused, accepted, ask, outcome, each, marked, askRoom, kindKnown, boundKnown, groupKnown, spanQuestions, recordQuestions, twinQuestions, mostRecords, logQuestions, orderQuestions}
+use Rattle.model.specs.Questions.{Outcome, refused, accepted, ask, outcome, each, marked, askRoom, kindKnown, boundKnown, groupKnown, spanQuestions, recordQuestions, twinQuestions, mostRecords, fileQuestions, logQuestions, orderQuestions}
 use Rattle.model.specs.Calls.{Counts, logSegments, countsOf, queryOutcome, readOutcome}
 use Rattle.model.specs.LowerHalves.{lowerNearest, lowerValue, lowerError, lowerErrorOf, lowerLeastOf, lowerCountFor, lowerReducedTo, lowerReduced, lowerAnswer, lowerOutcome}
 use Rattle.model.specs.Demands.{AllPass, HalfAbove, AllRisen, Cut, LowerCut}
@@ -155,20 +155,27 @@ earlier-cut : LowerCut 0 loads earlier (0 ∷ []) × IsReduction (gapBelow loads
 unfolding rowsOf rowOf lowerErrorOf reductionError lowerError errorWith lowerValue lowerNearest totals totalsOf add empty spanLength squared sumOf block listFrom segmentAt gapBelow lastGap gap adjacent
 earlier-cut = (record { rows = refl; error = refl }, (omega arith, omega arith, refl))
 
-earlier-logged : AllPass (logQuestions (bytes loads))
-unfolding logQuestions recordCount twins isFirst recordLength mostRecords each recordQuestions twinQuestions spanQuestions marked groupKnown recordAt every numberAt recordBytes bytesOf ask outcome
-earlier-logged = outcome-accepted (logQuestions (bytes loads)) (tt {0}) (tt {0}) refl .0
+earlier-logged : AllPass (fileQuestions (bytes loads))
+unfolding fileQuestions recordCount recordLength mostRecords each recordQuestions spanQuestions marked groupKnown recordAt numberAt recordBytes bytesOf ask outcome
+earlier-logged = outcome-accepted (fileQuestions (bytes loads)) (tt {0}) (tt {0}) refl .0
 
--- refused, whatever stands behind it: of a kind by which these loads are the segments (stillRead)
+-- refused, whatever stands behind it: a slot of one row, whose block is all of these segments (stillRead)
+pub one-row-refused : (kind : ℕ) (log : List ℕ) (segs : List (Span ℕ)) (a : Reduced) → kindKnown kind ≡ true
+    → AllPass (fileQuestions log) → logSegments kind log ≡ segs → LowerCut 0 segs a (0 ∷ [])
+    → IsReduction (gapBelow segs) (length segs) (0 ∷ []) → (rest : List ℕ) (number index : ℕ)
+    → readOutcome (slotBytes byBound kind (a .error) (a .rows) ++ rest) ≡ refused number index → ⊥
+unfolding mostRows
+one-row-refused kind log segs a known logged found cut is rest number index e =
+    let reads = demand2 .stillRead 0 kind log (0 ∷ []) rest a known logged
+    (subst (λ l. LowerCut 0 l a (0 ∷ [])) (sym found) cut)
+    (subst (λ l. IsReduction (gapBelow l) (length l) (0 ∷ [])) (sym found) is) (omega arith) in
+    accepted≢refused (sym (reads .header) ∙ e)
+
+-- of a kind by which these loads are the segments
 earlier-refused : (kind : ℕ) → kindKnown kind ≡ true → logSegments kind (bytes loads) ≡ loads → (rest : List ℕ) (number index : ℕ)
     → readOutcome (slotBytes byBound kind 1 (one-row 0) ++ rest) ≡ refused number index → ⊥
-unfolding mostRows
-earlier-refused kind known found rest number index e =
-    let (cut, is) = earlier-cut in
-    let reads = demand2 .stillRead 0 kind (bytes loads) (0 ∷ []) rest earlier known earlier-logged
-    (subst (λ segs. LowerCut 0 segs earlier (0 ∷ [])) (sym found) cut)
-    (subst (λ segs. IsReduction (gapBelow segs) (length segs) (0 ∷ [])) (sym found) is) (omega arith) in
-    accepted≢refused (sym (reads .header) ∙ e)
+earlier-refused kind known found =
+    one-row-refused kind (bytes loads) loads earlier known earlier-logged found (earlier-cut .0) (earlier-cut .1)
 
 -- with the lower number at a half, and of kind 3 with the nearest whole number
 pub lower-slot-refused : (rest : List ℕ) (number index : ℕ)

@@ -16,7 +16,7 @@ use Rattle.model.specs.Blocks.{segmentAt, gap, lastGap, runsTo, block, empty, t
 use Rattle.model.specs.Split.{untried, plus, below, exceeds, weigh, scan, single, cell, least, errorOf, gapBelow, rowsOf, runs, leastOf, mostRows}
 use Rattle.model.specs.Reductions.{IsReduction, Merges, reductionError, NotEarlier, IsLeast, BestWithin, FewestWithin}
 use Rattle.model.specs.Slot.{slotLength}
-use Rattle.model.specs.Questions.{accepted, refused, kindKnown, boundKnown, orderQuestions, logQuestions, mostSegments}
+use Rattle.model.specs.Questions.{accepted, refused, kindKnown, boundKnown, orderQuestions, fileQuestions, mostSegments}
 use Rattle.model.specs.Calls.{Counts, logSegments, answerOf, countsOf, queryOutcome}
 use Rattle.model.specs.Fitting.{hits, due}
 use Rattle.model.specs.Demands.{AllPass, Segmentation, MeanInHundredths, Cut, Bytes}
@@ -24,6 +24,7 @@ use Rattle.model.specs.declared.Bound.the-variants.{Rows, Share}
 use Rattle.model.proofs.Cases.{span, log-G, segments-G, rows-G, bytes, query, worked-cases}
 use Rattle.theory.proofs.Tests.{and-true}
 use Rattle.theory.proofs.Refusals.{accepted≢refused, all-tail}
+use Rattle.theory.proofs.Asking.{file-passed}
 use Rattle.theory.proofs.Blocks.{rows-length}
 use Rattle.theory.proofs.Answer.{widens}
 use Rattle.theory.proofs.Choice.{least-of}
@@ -279,7 +280,7 @@ segments-not-joined e =
     (subst (Segmentation (value 0 end-to-end)) e (demand2 .segmentation 0 (bytes end-to-end)))
 
 -- 256 segments (count)
-pub segments-too-many : (kind : ℕ) (log : List ℕ) → AllPass (logQuestions log) → length (logSegments kind log) ≡ 256 → ⊥
+pub segments-too-many : (kind : ℕ) (log : List ℕ) → AllPass (fileQuestions log) → length (logSegments kind log) ≡ 256 → ⊥
 unfolding mostSegments
 segments-too-many kind log all e = omega (arith, demand2 .count kind log all)
 
@@ -339,9 +340,9 @@ bytes-only (b ∷ rest) h zero = ltb-true b 256 (and-true (ltb b 256) _ h .0)
 bytes-only (b ∷ rest) h (suc i) = bytes-only rest (and-true (ltb b 256) _ h .1) i
 
 -- G passes the questions of a log
-logged-G : AllPass (logQuestions (bytes log-G))
+logged-G : AllPass (fileQuestions (bytes log-G))
 unfolding kindKnown boundKnown mostRows orderQuestions
-logged-G = all-tail _ _ (all-tail _ _ (in-order 0 (Rows 4) refl refl))
+logged-G = file-passed (bytes log-G) (all-tail _ _ (all-tail _ _ (in-order 0 (Rows 4) refl refl)))
 
 -- a load lost where two records overlap (conserved)
 pub load-lost : logSegments 0 (bytes log-G)

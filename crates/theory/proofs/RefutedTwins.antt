@@ -6,15 +6,24 @@ use mathlib.Core.List.{List, [], _∷_, _++_}
 use mathlib.Core.Path.{_≡_, refl, sym, ap, _∙_}
 use native.Mathlib.Omega.{arith}
 use lib.ListN.{length, getD, take}
-use Rattle.model.specs.Common.{listFrom, every, joined, numberAt, bytesOf}
-use Rattle.model.specs.Spans.{Span}
-use Rattle.model.specs.Log.{recordLength, recordBytes, recordAt, recordCount, recordPart, twins, isFirst, firstsOf, withoutTwins}
-use Rattle.model.specs.Questions.{Question, refused, accepted, ask, askRoom, outcome, each, marked, groupKnown, spanQuestions, recordQuestions, twinQuestions, mostRecords, fileQuestions, logQuestions, withoutTwinsQuestions}
-use Rattle.model.specs.Demands.{AllPass, FirstNo, Distinct, EachOnce, FilePromise}
+use Rattle.model.specs.Common.{sumOf, listFrom, every, joined, numberAt, bytesOf}
+use Rattle.model.specs.Spans.{Span, groupCount, frameCount, spanLength, meets, adjacent}
+use Rattle.model.specs.Log.{recordLength, recordBytes, recordAt, recordCount, recordPart, twins, isFirst, firstsOf, withoutTwins, records, meeting, sum, aggregate, aggregated, value}
+use Rattle.model.specs.Segments.{join, fuse, place, framesFrom, groupsFrom, segmentsOf}
+use Rattle.model.specs.Blocks.{segmentAt, gap, lastGap, block, empty, totalsOf, add, totals, squared, errorWith, rowOf}
+use Rattle.model.specs.Split.{Reduced, gapBelow, rowsOf}
+use Rattle.model.specs.Reductions.{IsReduction, reductionError}
+use Rattle.model.specs.Slot.{byBound, slotBytes}
+use Rattle.model.specs.Questions.{refused, accepted, ask, askRoom, outcome, each, marked, kindKnown, groupKnown, spanQuestions, recordQuestions, twinQuestions, mostRecords, fileQuestions, logQuestions, withoutTwinsQuestions}
+use Rattle.model.specs.Calls.{logSegments, readOutcome}
+use Rattle.model.specs.LowerHalves.{lowerNearest, lowerValue, lowerError, lowerErrorOf}
+use Rattle.model.specs.Demands.{AllPass, FirstNo, LowerCut, Distinct, EachOnce, FilePromise}
+use Rattle.model.proofs.Page.{horizon, short-page}
 use Rattle.model.proofs.Cases.{span, bytes}
 use Rattle.model.proofs.TwinCases.{a, b, bad}
-use Rattle.theory.proofs.Refusals.{accepted≢refused, all-outcome, first-no-outcome}
+use Rattle.theory.proofs.Refusals.{accepted≢refused, all-outcome, first-no-outcome, outcome-accepted}
 use Rattle.theory.proofs.RefutedCalls.{refused-number}
+use Rattle.theory.proofs.RefutedHalves.{one-row-refused}
 use Rattle.theory.proofs.Twins.{twin-records}
 
 abbrev log : List ℕ
@@ -92,3 +101,29 @@ twin-ahead-of-nine f =
 
 pub twin-on-file : FirstNo (withoutTwinsQuestions log 27) 21 2 → ⊥
 twin-on-file f = accepted≢refused (sym (first-noes .2) ∙ first-no-outcome (withoutTwinsQuestions log 27) (tt {0}) 21 2 f)
+
+-- ---- slots of before
+
+-- the record a twice: its load doubled, in one segment
+doubled : logSegments 0 (bytes (a ∷ a ∷ [])) ≡ span 0 0 3 200 ∷ []
+unfolding logSegments records recordCount recordLength recordAt recordBytes listFrom numberAt bytesOf horizon groupCount frameCount meets adjacent meeting sum aggregate aggregated value join fuse place framesFrom groupsFrom segmentsOf
+doubled = short-page 0 (a ∷ a ∷ []) refl
+
+-- and in one row, with no error
+abbrev doubled-row : Reduced
+doubled-row = record { rows = span 0 0 3 200 ∷ []; error = 0; weighed = 0 }
+
+doubled-cut : LowerCut 0 (span 0 0 3 200 ∷ []) doubled-row (0 ∷ []) × IsReduction (gapBelow (span 0 0 3 200 ∷ [])) 1 (0 ∷ [])
+unfolding rowsOf rowOf lowerErrorOf reductionError lowerError errorWith lowerValue lowerNearest totals totalsOf add empty spanLength squared sumOf block listFrom segmentAt gapBelow lastGap gap adjacent
+doubled-cut = (record { rows = refl; error = refl }, (omega arith, omega arith, refl))
+
+doubled-logged : AllPass (fileQuestions (bytes (a ∷ a ∷ [])))
+unfolding fileQuestions recordCount recordLength mostRecords each recordQuestions spanQuestions marked groupKnown recordAt numberAt recordBytes bytesOf ask outcome
+doubled-logged = outcome-accepted (fileQuestions (bytes (a ∷ a ∷ []))) (tt {0}) (tt {0}) refl .0
+
+-- a slot that was made of a log with twins refused (stillRead)
+pub twin-slot-refused : (rest : List ℕ) (number index : ℕ)
+    → readOutcome (slotBytes byBound 0 0 (span 0 0 3 200 ∷ []) ++ rest) ≡ refused number index → ⊥
+unfolding kindKnown
+twin-slot-refused =
+    one-row-refused 0 (bytes (a ∷ a ∷ [])) (span 0 0 3 200 ∷ []) doubled-row refl doubled-logged doubled (doubled-cut .0) (doubled-cut .1)

@@ -18,7 +18,7 @@ use Rattle.model.specs.Log.{records, meeting, aggregated, value}
 use Rattle.model.specs.Blocks.{segmentAt}
 use Rattle.model.specs.Windows.{boundIn, Window, beat, beatCount, scene, windowCount, windowAt, windows, windowRow, groupRows, spanRows}
 use Rattle.model.specs.Slot.{valueIn}
-use Rattle.model.specs.Questions.{ask, sceneFollows, sceneKnown, mostScenes, scenesKnown, ruleQuestion, windowRows, logQuestions, rowKnown, follows}
+use Rattle.model.specs.Questions.{ask, sceneFollows, sceneKnown, mostScenes, scenesKnown, ruleQuestion, windowRows, fileQuestions, rowKnown, follows}
 use Rattle.model.specs.Calls.{beatQuery}
 use Rattle.model.specs.Demands.{AllPass, IsWindow, SpanAggregation}
 use Rattle.model.specs.declared.Rule.{Rule}
@@ -342,7 +342,7 @@ module _ (q : RuledQuery) (log : List ℕ) (windowed : boundIn (q .rule) ≡ non
           subst (λ (x : ℕ). List·Memᴰ (record { group = r .group; first = r .first; last = r .last; value = x }) rows) same k
 
   -- such rows can be stored, where the log passes its questions
-  pub window-rows-known : AllPass (logQuestions log) → (r : Span ℕ) → List·Memᴰ r (windowRows q log)
+  pub window-rows-known : AllPass (fileQuestions log) → (r : Span ℕ) → List·Memᴰ r (windowRows q log)
       → (rowKnown r ≡ true) × (r .last < 2 ^ 16)
   window-rows-known logged r m =
       let (few, sound) = sound-records log logged in

@@ -16,6 +16,7 @@ use Rattle.model.specs.Arrays.{spanIn, spansIn, column, recordsIn, segmentsIn, 
 use Rattle.model.specs.Demands.{AllPass}
 use Rattle.model.specs.Room.{Measured}
 use Rattle.theory.proofs.Answer.{count-le}
+use Rattle.theory.proofs.Asking.{file-passed}
 use Rattle.theory.proofs.Bounds.{logs-measured}
 use Rattle.theory.proofs.Refusals.{all-head, all-tail}
 use Rattle.log.proofs.Asking.{few-records, decoded-count}
@@ -59,7 +60,7 @@ found c =
     ∙ segments-held _
 
 measured : (c : tie.After-find) → Measured (spansIn (c .find .last .1 .1 .1 .1 .1 .1 .0) (c .find .last .1 .1 .1 .1 .1 .1 .1 .0) (c .find .last .1 .1 .1 .1 .1 .1 .1 .1 .0) (c .find .last .1 .1 .1 .1 .1 .1 .1 .1 .1 .0) (c .find .result))
-measured c = rw (found c) (logs-measured ((Decoded c) .before .before .args .query .kind) (Log ((Decoded c) .before)) (logged ((Decoded c) .before)))
+measured c = rw (found c) (logs-measured ((Decoded c) .before .before .args .query .kind) (Log ((Decoded c) .before)) (file-passed (Log ((Decoded c) .before)) (logged ((Decoded c) .before))))
 
 -- the reduction that was found, with its cuts
 answer : (c : tie.Else1) →
