@@ -6,6 +6,13 @@
  * with the same nine bytes are twins; a log that has some is refused, and pacer_without_twins keeps
  * the first of them.
  *
+ * Records may stand in any order, as where two consoles feed one log. Logs that pass questions 4 to
+ * 9 and 21 and hold the same records, in whatever order, have the same segments; and every query in
+ * order itself, with a slot long enough, gives the same answer, cuts weighed included, and the same
+ * first 768 bytes of the slot, or is refused with the same one of 10 and 20. A log that does not
+ * pass is refused with its first 'no' in the order as lent, and the index (6 to 9 and 21) is that of
+ * the log as lent. pacer_without_twins keeps the order that it finds.
+ *
  * Every call asks its questions in the order given at the call. The answer's field `question` is
  * 0 if all got 'yes'. Otherwise it is the number of the first question that got 'no', `index` is
  * the index from 0 of the record or row concerned for questions 6 to 9, 14 to 16 and 21 (0 for the
@@ -49,7 +56,7 @@
 #include <stdint.h>
 
 /* The version of the library that this header describes. */
-#define PACER_VERSION "0.13.0"
+#define PACER_VERSION "0.14.0"
 
 #ifdef __cplusplus
 extern "C" {
@@ -169,6 +176,7 @@ struct pacer_row {
 };
 
 /* Writes one log record.
+ * A log is records one behind the other, in any order.
  * Asks 1 (9 bytes), 7, 8, 9, in this order; the index is always 0.
  * Accepted: the first 9 bytes of the buffer are the record, the others keep their content.
  * Refused: the buffer is unchanged.
@@ -198,6 +206,8 @@ struct pacer_log_answer pacer_without_twins(const uint8_t *log, size_t log_lengt
  * half: the values 0 and 1 of two frames give 1. With PACER_GREATEST it is the greatest of them, so
  * that no frame needs more than its row says. The error is that of these values.
  * Refused: the slot is unchanged; rows, error and weighed are 0.
+ * Any order: a log that passes 4 to 9 and 21 gives the same answer, cuts weighed and a refusal 10
+ * included, and the same 768 bytes with its records in any other order.
  * `log` and `slot` must not overlap.
  */
 struct pacer_query_answer pacer_query(uint8_t kind, uint8_t rule, uint16_t bound,
@@ -213,6 +223,8 @@ struct pacer_query_answer pacer_query(uint8_t kind, uint8_t rule, uint16_t bound
  * the kind's value over all records of its group that contain at least one frame of the window,
  * each counted once. A window that no record of a group meets gives that group no row.
  * Refused: the slot is unchanged; rows is 0 too.
+ * Any order: a log that passes 4 to 9 and 21 gives the same answer, a refusal 20 included, and the
+ * same 768 bytes with its records in any other order.
  * `log` and `slot` must not overlap.
  */
 struct pacer_query_answer pacer_query_beats(uint8_t kind, uint16_t length, uint16_t start,
@@ -223,7 +235,7 @@ struct pacer_query_answer pacer_query_beats(uint8_t kind, uint16_t length, uint1
  * `lasts[i]`, both included. Scenes may touch, as 0 to 3 and 4 to 9 do.
  * Asks 1 (768 bytes of slot), 2, 19, 4, 5, then 6 to 9 and 21 for record after record, then 20. Lists
  * of unequal length are 19's 'no'.
- * All else is as with pacer_query_beats.
+ * All else is as with pacer_query_beats: records may stand in any order here too; scenes may not.
  * `slot` must not overlap `firsts`, `lasts` or `log`.
  */
 struct pacer_query_answer pacer_query_scenes(uint8_t kind,
@@ -236,6 +248,8 @@ struct pacer_query_answer pacer_query_scenes(uint8_t kind,
  * Asks 1 (255 places), 2, 4, 5, then 6 to 9 and 21 for record after record.
  * Accepted: the first `count` places hold the segments, the others keep their content.
  * Refused: the list is unchanged; count is 0.
+ * Any order: a log that passes 4 to 9 and 21 has the same segments with its records in any other
+ * order.
  * `log` and `list` must not overlap.
  */
 struct pacer_segments_answer pacer_segments(const uint8_t *log, size_t log_length, uint8_t kind,

@@ -1,5 +1,5 @@
 /* Log G through the C interface: write_record, without_twins, segments, query, query_beats,
- * query_scenes, read, read_rows, row_at and lookup.
+ * query_scenes, read, read_rows, row_at and lookup; and in every order of its records.
  *
  * Every answer is checked against the numbers that the paper prints for log G, or against what its
  * rules give for it by hand, and every byte lent against the paper's layout. Prints one line,
@@ -696,6 +696,153 @@ static void test_without_twins(const uint8_t *log)
     BYTES(buffer + 128 * 9, before + 128 * 9, sizeof buffer - 128 * 9);
 }
 
+/* The queries that are put to a log in every order, by their numbers. Log G has too many runs for the
+ * first two.
+ */
+enum { ORDER_QUERIES = 15 };
+static struct pacer_query_answer order_query(size_t number, uint8_t kind, const uint8_t *log,
+                                             uint8_t *slot, size_t length)
+{
+    static const struct {
+        uint8_t rule;
+        uint16_t bound;
+    } bounds[9] = {
+        {PACER_ROWS, 0},  {PACER_ROWS, 2},  {PACER_ROWS, 3},    {PACER_ROWS, 4},    {PACER_ROWS, 5},
+        {PACER_ROWS, 64}, {PACER_SHARE, 0}, {PACER_SHARE, 281}, {PACER_SHARE, 282},
+    };
+    static const struct {
+        uint16_t length;
+        uint16_t start;
+    } beats[4] = {{1, 0}, {4, 0}, {7, 3}, {65535, 6}};
+    static const uint16_t firsts[] = {0, 4, 11}, lasts[] = {3, 9, 65535};
+
+    if (number < 9)
+        return pacer_query(kind, bounds[number].rule, bounds[number].bound, log, 45, slot, length);
+    if (number < 13)
+        return pacer_query_beats(kind, beats[number - 9].length, beats[number - 9].start, log, 45,
+                                 slot, length);
+    /* Three scenes, and the last two of them. */
+    return pacer_query_scenes(kind, firsts + number - 13, 16 - number, lasts + number - 13,
+                              16 - number, log, 45, slot, length);
+}
+
+/* The five records of a log in the order with a number from 0 to 119; 0 is the order that they have. */
+static void order_records(const uint8_t *log, size_t number, uint8_t *ordered)
+{
+    uint8_t left[45];
+
+    memcpy(left, log, sizeof left);
+    for (size_t count = 5; count > 0; count--) {
+        const size_t taken = number % count;
+        memcpy(ordered, left + 9 * taken, 9);
+        memmove(left + 9 * taken, left + 9 * taken + 9, 9 * (count - 1 - taken));
+        ordered += 9;
+        number /= count;
+    }
+}
+
+/* A log of five records in every order, lent slots and lists with another content each time: answers,
+ * slots and segments are those of the first order. `tens` and `twenties` say how many of the queries, in
+ * all kinds, are refused by 10 and by 20.
+ */
+static void every_order(const uint8_t *log, size_t tens, size_t twenties)
+{
+    static uint8_t slot[PACER_SLOT_BYTES + 32], first_slot[PACER_SLOT_BYTES];
+    static struct pacer_segment list[PACER_SEGMENT_PLACES], first_list[PACER_SEGMENT_PLACES];
+    static uint8_t orders[120][45], before[sizeof slot];
+
+    for (size_t order = 0; order < 120; order++) {
+        order_records(log, order, orders[order]);
+        for (size_t other = 0; other < order; other++)
+            SAME(memcmp(orders[other], orders[order], 45) == 0, 0);
+    }
+    BYTES(orders[0], log, 45);
+
+    for (uint8_t kind = PACER_SUM; kind <= PACER_MEAN; kind++) {
+        for (size_t number = 0; number < ORDER_QUERIES; number++) {
+            struct pacer_query_answer first = {0};
+            for (size_t order = 0; order < 120; order++) {
+                memset(before, (int)(0xFF - order), sizeof before);
+                memcpy(slot, before, sizeof slot);
+                const struct pacer_query_answer a =
+                    order_query(number, kind, orders[order], slot, sizeof slot);
+                if (order == 0) {
+                    first = a;
+                    memcpy(first_slot, slot, sizeof first_slot);
+                    tens -= a.question == 10;
+                    twenties -= a.question == 20;
+                }
+                answer_at(__LINE__, a, first);
+                BYTES(slot, first.question == 0 ? first_slot : before, PACER_SLOT_BYTES);
+                BYTES(slot + PACER_SLOT_BYTES, before, sizeof slot - PACER_SLOT_BYTES);
+            }
+        }
+
+        size_t count = 0;
+        for (size_t order = 0; order < 120; order++) {
+            const struct pacer_segment untouched = {9, 10, 11, (uint32_t)order};
+            for (size_t i = 0; i < PACER_SEGMENT_PLACES; i++)
+                list[i] = untouched;
+            const struct pacer_segments_answer a =
+                pacer_segments(orders[order], 45, kind, list, PACER_SEGMENT_PLACES);
+            if (order == 0) {
+                count = a.count;
+                memcpy(first_list, list, sizeof first_list);
+            }
+            SAME(a.question, 0);
+            SAME(a.index, 0);
+            SAME(a.count, count);
+            for (size_t i = 0; i < PACER_SEGMENT_PLACES; i++) {
+                const struct pacer_segment expected = i < count ? first_list[i] : untouched;
+                SAME(list[i].group, expected.group);
+                SAME(list[i].first, expected.first);
+                SAME(list[i].last, expected.last);
+                SAME(list[i].value, expected.value);
+            }
+        }
+    }
+    SAME(tens, 0);
+    SAME(twenties, 0);
+}
+
+static void test_orders(const uint8_t *log)
+{
+    static uint8_t slot[PACER_SLOT_BYTES];
+    uint8_t wide[45], ordered[45];
+
+    every_order(log, 2 * 5, 0);
+
+    /* One run of 65 frames, so that there are 65 beats of one frame; two records have the same frames,
+     * and the others lie within these.
+     */
+    SAME(pacer_write_record(5, 0, 64, 9, wide, 9).question, 0);
+    SAME(pacer_write_record(5, 0, 64, 8, wide + 9, 9).question, 0);
+    SAME(pacer_write_record(5, 64, 64, 1000, wide + 18, 9).question, 0);
+    SAME(pacer_write_record(5, 0, 3, 0, wide + 27, 9).question, 0);
+    SAME(pacer_write_record(5, 30, 40, 700, wide + 36, 9).question, 0);
+    every_order(wide, 5, 5);
+
+    /* The worked case, and the rows by beats: every byte, from every order. */
+    for (size_t order = 0; order < 120; order++) {
+        order_records(log, order, ordered);
+        ANSWER(pacer_query(PACER_SUM, PACER_ROWS, 4, ordered, 45, slot, sizeof slot), 0, 0, 4, 11280,
+               16);
+        BYTES(slot, slot_g, PACER_SLOT_BYTES);
+        ANSWER(pacer_query_beats(PACER_SUM, 4, 0, ordered, 45, slot, sizeof slot), 0, 0, 4, 0, 0);
+        BYTES(slot, beats_slot_g, PACER_SLOT_BYTES);
+    }
+
+    /* The index of a wrong record is that of the log as lent: G's first record, wherever it stands. */
+    for (size_t order = 0; order < 120; order++) {
+        size_t place = 0;
+        order_records(log, order, ordered);
+        while (memcmp(ordered + 9 * place, log, 9) != 0)
+            place++;
+        ordered[9 * place + 2] = 8;
+        EVERY_CALL(ordered, 45, 7, place);
+    }
+}
+
 static void test_read(uint8_t *slot, size_t length)
 {
     struct pacer_read_answer a = pacer_read(slot, length);
@@ -856,6 +1003,7 @@ int main(void)
     test_scenes(log);
     test_twins(log);
     test_without_twins(log);
+    test_orders(log);
     test_read(slot, sizeof slot);
     test_read_rows(slot, sizeof slot);
     test_row_at(slot, sizeof slot);

@@ -1,11 +1,13 @@
 #!/usr/bin/env python3
-"""The expected output of the program `profile`, of queries by windows and of the call for logs on
-file, computed from the paper's words.
+"""The expected output of the program `profile`, of queries by windows, of the call for logs on file
+and of calls on the same records in two orders, computed from the paper's words.
 
     expected.py INPUT                    print what `profile` prints for the file INPUT
     expected.py --cases CASES EXPECTED   write the file of cases and the file of expected output
     expected.py --windows FILE           write the file of queries by windows with their answers
     expected.py --twins FILE             write the file of logs on file with what is kept of them
+    expected.py --order FILE SHUFFLED    write two files of calls on a log, which have the same
+                                         records line by line, in the second in another order
 
 An input is the kind (1 byte), 52 for a row limit or 45 for a share (hexadecimal), the bound
 (2 bytes, least byte first) and the log. In the file of cases each case is its length (2 bytes,
@@ -13,7 +15,8 @@ least byte first) and then its bytes; the file of expected output has what `prof
 one case after another.
 
 The program takes no windows and keeps no log, so these are for the Rust tests; each query by
-windows and each log on file is a line of words, which the first lines of its file explain.
+windows, each log on file and each call in two orders is a line of words, which the first lines of
+its file explain.
 
 Frames, segments, blocks and cuts are worked out one by one with Python's whole numbers and
 fractions, by the shortest way from the words and not the fastest.
@@ -307,6 +310,15 @@ def window_rows(log, kind, windows):
                 yield group, window[0], window[-1], aggregate(kind, loads)
 
 
+def slot_bytes(mark, kind, error, rows):
+    """The bytes of a slot up to its zeros, in hexadecimal."""
+    slot = mark + bytes([kind, len(rows)]) + error.to_bytes(8, "little")
+    for group, first, last, value in rows:
+        slot += b"PR" + bytes([group]) + first.to_bytes(2, "little")
+        slot += last.to_bytes(2, "little") + value.to_bytes(4, "little")
+    return slot.hex()
+
+
 def windows_answer(kind, rule, log):
     """What a query by windows answers into a slot that is long enough: 'no' with number and index,
     or the bytes of the slot up to its zeros, in hexadecimal."""
@@ -317,11 +329,58 @@ def windows_answer(kind, rule, log):
     rows = list(itertools.islice(window_rows(log, kind, rule.windows()), 65))
     if len(rows) > 64:
         return "no 20 0"
-    slot = b"PS" + bytes([kind, len(rows)]) + bytes(8)
-    for group, first, last, value in rows:
-        slot += b"PR" + bytes([group]) + first.to_bytes(2, "little")
-        slot += last.to_bytes(2, "little") + value.to_bytes(4, "little")
-    return slot.hex()
+    return slot_bytes(b"PS", kind, 0, rows)
+
+
+# ---- Queries by a bound and segments, as lines of words ------------------------------------
+
+
+class Bound:
+    """A row limit or a share."""
+
+    def __init__(self, rule, bound):
+        self.rule, self.bound = rule, bound
+
+    def asked(self, kind):
+        return f"{'rows' if self.rule == ROWS else 'share'} {kind} {self.bound}"
+
+    def answer(self, kind, log):
+        """'no' with number and index, or the cuts weighed and the bytes of the slot."""
+        for number, index, yes in questions(kind, self.rule, self.bound, log):
+            if not yes:
+                return f"no {number} {index}"
+        found = reduction(segments_of(log, kind), kind, self.rule, self.bound)
+        if found is None:
+            return "no 10 0"
+        rows, error, weighed = found
+        return f"{weighed} {slot_bytes(b'PH', kind, error, rows)}"
+
+
+class ByWindows:
+    """Beats or scenes."""
+
+    def __init__(self, rule):
+        self.rule = rule
+
+    def asked(self, kind):
+        return f"{type(self.rule).__name__.lower()} {kind} {self.rule.words()}"
+
+    def answer(self, kind, log):
+        return windows_answer(kind, self.rule, log)
+
+
+class Segments:
+    """The segment call."""
+
+    def asked(self, kind):
+        return f"segments {kind}"
+
+    def answer(self, kind, log):
+        """'no' with number and index, or the segments."""
+        for number, index, yes in itertools.chain([(2, 0, kind in KINDS)], log_questions(log)):
+            if not yes:
+                return f"no {number} {index}"
+        return " ".join(",".join(map(str, each)) for each in segments_of(log, kind)) or "-"
 
 
 # ---- Logs on file --------------------------------------------------------------------------
@@ -915,6 +974,236 @@ def twins_lines():
     return [f"{words}: {answer}\n" for words, answer in lines.items()]
 
 
+# ---- Two orders of one log -----------------------------------------------------------------
+
+
+def riffled(records):
+    """The records of the second half between those of the first."""
+    half = (len(records) + 1) // 2
+    pairs = itertools.zip_longest(records[:half], records[half:])
+    return [one for pair in pairs for one in pair if one is not None]
+
+
+def shuffled(records):
+    """An order that looks random: each record is changed for one that is not behind it."""
+    records, number = list(records), 2024
+    for place in range(len(records) - 1, 0, -1):
+        number = (6364136223846793005 * number + 1442695040888963407) % 2 ** 64
+        other = (number >> 33) % (place + 1)
+        records[place], records[other] = records[other], records[place]
+    return records
+
+
+# What another order of a log is made by, line by line in turns.
+ORDERS = [
+    lambda nines: nines[::-1],
+    sorted,
+    lambda nines: nines[len(nines) // 3:] + nines[:len(nines) // 3],
+    riffled,
+    shuffled,
+]
+
+
+def runs_of(log, kind):
+    """The numbers of segments and of runs."""
+    segments = segments_of(log, kind)
+    gaps = sum(is_gap(segments, j) for j in range(1, len(segments)))
+    return len(segments), gaps + (1 if segments else 0)
+
+
+def both_ends(kind, log):
+    """The fewest rows, one below them, one above, as many as there are segments or as a slot holds,
+    and shares."""
+    n, m = runs_of(log, kind)
+    for limit in sorted({m - 1, m, m + 1, n, 64} & set(range(65))):
+        yield kind, Bound(ROWS, limit)
+    for share in (0, 1, 500, 999, 1000):
+        yield kind, Bound(SHARE, share)
+
+
+# Groups 0 to 3 are written by one console and 4 to 7 by another, each in the order of its frames.
+CONSOLES = [[(group + 4 * console, 20 * step + 3 * group + 5 * console,
+              20 * step + 3 * group + 5 * console + 7 + 6 * (step % 3),
+              (37 * step + 150 * group + 11 * console) % 1001)
+             for step in range(3) for group in range(4)] for console in range(2)]
+
+# Records of one group that lie over each other. The least load, the greatest and one between them
+# stand first, last and in the middle, over the same frames, over others, and within one another.
+OVERLAPPING = [
+    [(2, 0, 9, 500), (2, 0, 9, 1), (2, 0, 9, 999), (2, 0, 9, 2)],
+    [(2, 0, 9, 7), (2, 2, 7, 3), (2, 4, 12, 9), (2, 5, 5, 0), (2, 3, 6, 1000), (2, 9, 14, 8)],
+    [(6, i, 20 - i, (5 * i * i + 3) % 11) for i in range(10)],
+    [(1, 0, 1, 0), (1, 0, 0, 0), (1, 0, 0, 1), (1, 1, 4, 1), (1, 3, 6, 2), (1, 6, 6, 1)],
+    [(4, 65530, 65535, 9), (4, 65535, 65535, 1), (4, 0, 65535, 5), (4, 65532, 65533, 1000)],
+]
+
+# Frames in rows of which several are equally good: the latest cut is kept.
+TIES = [frames(loads) for loads in (
+    [0, 1, 0], [0, 4, 8], [0, 1, 0, 1], [3, 4, 3, 4, 3, 4], [5, 9, 5, 9, 5], [0, 2, 4, 6, 8, 10],
+    [0, 0, 7, 7, 0, 0, 7, 7])]
+
+
+def several_best(log, kind, limit):
+    """Whether several lists of so many rows or fewer have the least error and the fewest rows."""
+    segments = segments_of(log, kind)
+    n = len(segments)
+    blocks = Blocks(segments, kind, nearest)
+    found = []
+    for k in range(1, min(limit, n) + 1):
+        for cuts in itertools.combinations(range(1, n), k - 1):
+            ends = [0, *cuts, n]
+            found.append((sum(blocks.error(*block) for block in zip(ends, ends[1:])), k))
+    return found.count(min(found)) > 1
+
+
+def in_two_orders():
+    """Calls on two orders of a log: kind, call, the records' bytes in one order and, where it is
+    not left to ORDERS, in the other."""
+    def beats(length, start):
+        return ByWindows(Beats(length, start))
+
+    def scenes(firsts, lasts):
+        return ByWindows(Scenes(firsts, lasts))
+
+    # Log G, and the two published relations.
+    g = nines_of(log_of(LOG_G))
+    for kind in KINDS:
+        for call in (Segments(), beats(40, 0), beats(65535, 6), scenes([0, 4], [3, 9]),
+                     scenes([1, 6, 8, 10], [4, 7, 8, 65535])):
+            yield kind, call, g, None
+        for _, call in both_ends(kind, b"".join(g)):
+            yield kind, call, g, None
+        for relation in (SALARIES, PATIENTS):
+            yield kind, Bound(ROWS, 4), nines_of(log_of(relation)), None
+    yield 0, beats(4, 0), g, None
+    yield 4, beats(4, 1), nines_of(log_of(SALARIES)), None
+    # Loads that lie over each other, and ties.
+    for place, records in enumerate(OVERLAPPING):
+        nines = nines_of(log_of(records))
+        for kind in KINDS:
+            yield kind, Segments(), nines, None
+            if kind == place:
+                yield kind, beats(3, 1), nines, None
+            else:
+                yield kind, scenes([0, 5, 9], [3, 6, 65535]), nines, None
+            for _, call in list(both_ends(kind, b"".join(nines)))[1 + (kind + place) % 3::3]:
+                yield kind, call, nines, None
+    for records in TIES:
+        nines = nines_of(log_of(records))
+        tied = [(kind, limit) for limit in range(1, len(records)) for kind in (0, GREATEST)
+                if several_best(b"".join(nines), kind, limit)]
+        assert tied, records
+        for kind, limit in tied:
+            yield kind, Bound(ROWS, limit), nines, None
+        yield 0, Bound(SHARE, 300), nines, None
+    # Two consoles: in the order of the frames, and one console after the other.
+    by_frame = nines_of(log_of(sorted(CONSOLES[0] + CONSOLES[1], key=lambda each: each[1])))
+    one_by_one = nines_of(log_of(CONSOLES[0] + CONSOLES[1]))
+    for kind in KINDS:
+        windows = scenes([0, 20, 45], [15, 44, 65535]) if kind % 2 else beats(30, 0)
+        for call in (Segments(), windows):
+            yield kind, call, by_frame, one_by_one
+        for _, call in list(both_ends(kind, b"".join(by_frame)))[kind::5]:
+            yield kind, call, by_frame, one_by_one
+    # 64 rows by windows, and 65.
+    wide = [(5, 0, 30, 7), (5, 20, 63, 9), (5, 3, 3, 1)]
+    quarters = [(group, 0, 170, 100 * group) for group in range(4)]
+    sixteen = range(0, 160, 10)
+    for more in ([], [(7, 150, 150, 1)]):
+        for kind in (1, 4):
+            yield kind, beats(1, 0), nines_of(log_of(wide + more)), None
+        yield 0, scenes(sixteen, sixteen), nines_of(log_of(quarters + more)), None
+    # Records in many windows, and windows with many records.
+    long = [(i % 2, 7 * i, 300 + 11 * i, (91 * i) % 1001) for i in range(14)]
+    for kind in KINDS:
+        yield kind, beats(150, 0), nines_of(log_of(long)), None
+    yield 2, beats(20, 3), nines_of(log_of(long)), None
+    yield 3, scenes(range(0, 480, 30), range(29, 509, 30)), nines_of(log_of(long)), None
+    # 64 runs and 65; a share that 64 rows do not meet.
+    apart = [(0, 2 * i, 2 * i, 5) for i in range(65)]
+    for count, limit in ((64, 64), (64, 63), (65, 64)):
+        yield 0, Bound(ROWS, limit), nines_of(log_of(apart[:count])), None
+    yield 0, Bound(SHARE, 1000), nines_of(log_of(apart)), None
+    zigzag = nines_of(log_of(frames([1 + i % 2 for i in range(80)])))
+    yield 0, Bound(SHARE, 0), zigzag, None
+    # 128 records: within each other with 255 segments, in all groups, and over few frames.
+    stairs = nines_of(log_of([(0, i, 255 - i, 1 + i % 7) for i in range(128)]))
+    eighths = nines_of(log_of([(i // 16, 3 * (i % 16), 3 * (i % 16) + 3, (i * 37) % 101)
+                               for i in range(128)]))
+    few = nines_of(log_of([(i % 3, 10 * (i % 8), 10 * (i % 8) + 12, (i * 53) % 1001)
+                           for i in range(128)]))
+    for nines, asks in (
+            (stairs, ((1, Segments()), (0, Bound(ROWS, 1)), (0, Bound(ROWS, 4)),
+                      (0, Bound(SHARE, 0)), (4, beats(30, 8)))),
+            (eighths, ((3, Bound(ROWS, 7)), (3, Bound(ROWS, 8)), (1, Bound(ROWS, 64)),
+                       (4, beats(15, 0)), (0, scenes(range(16), range(16))))),
+            (few, ((2, Segments()), (4, Bound(ROWS, 64)), (3, Bound(SHARE, 0)),
+                   (3, scenes([0, 15, 40], [9, 39, 65535]))))):
+        for kind, call in asks:
+            yield kind, call, nines, None
+
+
+ORDER_HEAD = """\
+# Calls on a log with their answers, made by tools/expected.py --order. Line by line, order.cases and
+# order-shuffled.cases ask the same of the same records in two orders, and the answers are equal.
+# A line is
+#     rows KIND LIMIT LOG: ANSWER
+#     share KIND SHARE LOG: ANSWER
+#     beats KIND LENGTH START LOG: ANSWER
+#     scenes KIND FIRSTS LASTS LOG: ANSWER
+#     segments KIND LOG: ANSWER
+# FIRSTS and LASTS are frames with commas between them and LOG is bytes in hexadecimal. ANSWER is
+# 'no', number and index; or for rows and share the cuts weighed and the slot's bytes up to its
+# zeros; for beats and scenes those bytes; and for segments each one's group, first frame, last frame
+# and value.
+"""
+
+
+def order_lines():
+    """The lines of the two files. Each answer is worked out from the bytes of its own line."""
+    files = {}, {}
+    met = set()
+    for kind, call, nines, other in in_two_orders():
+        if other is None:
+            turn = len(files[0])
+            orders = [order(nines) for order in ORDERS[turn % 5:] + ORDERS[:turn % 5]]
+            other = next(order for order in orders if order != nines)
+        assert nines != other and sorted(nines) == sorted(other)
+        asked = call.asked(kind)
+        one, two = b"".join(nines), b"".join(other)
+        if f"{asked} {one.hex()}" in files[0]:
+            continue
+        answers = []
+        for log, lines in zip((one, two), files):
+            assert f"{asked} {log.hex()}" not in lines
+            answers.append(call.answer(kind, log))
+            lines[f"{asked} {log.hex()}"] = answers[-1]
+        assert answers[0] == answers[1], (asked, one.hex(), two.hex())
+        assert not answers[0].startswith("no ") or answers[0] in ("no 10 0", "no 20 0"), asked
+        # What the files must have.
+        name, refused = asked.split()[0], answers[0].startswith("no ")
+        met.update(((name, refused), (name, kind)))
+        if isinstance(call, Bound):
+            n, m = runs_of(one, kind)
+            if call.rule == SHARE:
+                met.add((name, call.bound, refused))
+            elif m < n:
+                met.update(((name, "runs", call.bound - m), (name, "segments", call.bound - n)))
+        if len(nines) == 128:
+            met.add((name, "128 records", refused))
+    owed = {(name, kind) for name in ("rows", "share", "beats", "scenes", "segments")
+            for kind in KINDS}
+    owed |= {(name, refused) for name in ("rows", "share", "beats", "scenes")
+             for refused in (False, True)}
+    owed |= {("rows", "runs", 0), ("rows", "runs", -1), ("rows", "segments", 0),
+             ("share", 0, True)}
+    owed |= {("share", share, False) for share in (0, 1, 500, 999, 1000)}
+    owed |= {(name, "128 records", False)
+             for name in ("rows", "share", "beats", "scenes", "segments")}
+    assert owed <= met, owed - met
+    return [[f"{asked}: {answer}\n" for asked, answer in lines.items()] for lines in files]
+
+
 def all_cases():
     """Every case once, in order."""
     return list(dict.fromkeys(itertools.chain(
@@ -1084,6 +1373,14 @@ def main(words):
             file.write(head)
             file.writelines(lines)
         print(f"{len(lines)} {name}", file=sys.stderr)
+        return 0
+    if len(words) == 3 and words[0] == "--order":
+        both = order_lines()
+        for name, lines in zip(words[1:], both):
+            with open(name, "w", encoding="ascii", newline="\n") as file:
+                file.write(ORDER_HEAD)
+                file.writelines(lines)
+        print(f"{len(both[0])} calls in two orders", file=sys.stderr)
         return 0
     print(__doc__, file=sys.stderr)
     return 2

@@ -7,8 +7,9 @@ use mathlib.Core.Path.{_≡_}
 use Rattle.model.specs.Spans.{Span}
 use Rattle.model.specs.Questions.{Outcome, refused, accepted}
 use Rattle.model.specs.Calls.{Counts, Header}
-use Rattle.model.specs.Demands.{FilePromise, RuledPromise}
+use Rattle.model.specs.Demands.{FilePromise, SegmentsPromise, RuledPromise}
 use Rattle.model.specs.declared.RuledQuery.{RuledQuery}
+use Rattle.model.specs.declared.Segment.{Segment}
 use Rattle.capi.specs.declared.answers.CRecordAnswer.{CRecordAnswer}
 use Rattle.capi.specs.declared.answers.CLogAnswer.{CLogAnswer}
 use Rattle.capi.specs.declared.answers.CQueryAnswer.{CQueryAnswer}
@@ -46,6 +47,11 @@ RuledFields q log slot answer after =
 unfoldable pub segmentsFields : Outcome ℕ → CSegmentsAnswer
 segmentsFields (accepted count) = record { question = 0; index = 0; count = count }
 segmentsFields (refused number index) = record { question = number; index = index; count = 0 }
+
+-- these fields are those of a call that keeps the promise of a segment call
+abbrev pub SegmentsFields : ℕ → List ℕ → List Segment → CSegmentsAnswer → List Segment → Type 0
+SegmentsFields kind log list answer after =
+    (says : Outcome ℕ) × (answer ≡ segmentsFields says) × SegmentsPromise kind log list says after
 
 unfoldable pub readFields : Outcome Header → CReadAnswer
 readFields (accepted h) = record { question = 0; index = 0; kind = h .kind; mark = h .mark; rows = h .rows; error = h .error }

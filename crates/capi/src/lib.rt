@@ -20,7 +20,7 @@ ghost use Rattle.model.specs.Demands.{LetterPromise};
 ghost use Rattle.model.specs.Calls.{Counts, writeOutcome, writtenBuffer, withoutTwinsOutcome, withoutTwinsBuffer, letterOutcome, letterSlot, segmentsOutcome, filledList};
 ghost use Rattle.model.specs.Calls.{ruledOutcome, ruledSlot, beatQuery, sceneQuery};
 ghost use Rattle.model.specs.Calls.{readOutcome, readListOutcome, readList, stepOutcome, stepNext, lookupOutcome};
-ghost use Rattle.capi.specs.Answers.{spanOf, recordFields, logFields, FileFields, queryFields, RuledFields, segmentsFields, readFields, stepFields, lookupFields};
+ghost use Rattle.capi.specs.Answers.{spanOf, recordFields, logFields, FileFields, queryFields, RuledFields, segmentsFields, SegmentsFields, readFields, stepFields, lookupFields};
 
 // Writes a record to the front of a buffer.
 #[no_mangle]
@@ -109,7 +109,7 @@ pub extern "C" fn pacer_query_scenes(
 // The segments of a log, in the first places of a list of 255 or more.
 #[no_mangle]
 pub extern "C" fn pacer_segments(log: &[u8], kind: u8, list: &mut [Segment]) -> CSegmentsAnswer
-    ensures { λ r. ⌜ (r ≡ segmentsFields (segmentsOutcome kind (now (log .entry)) (length (now (list .entry))))) × (now (list .exit) ≡ filledList kind (now (log .entry)) (now (list .entry))) ⌝ }
+    ensures { λ r. ⌜ (r ≡ segmentsFields (segmentsOutcome kind (now (log .entry)) (length (now (list .entry))))) × (now (list .exit) ≡ filledList kind (now (log .entry)) (now (list .entry))) × SegmentsFields kind (now (log .entry)) (now (list .entry)) r (now (list .exit)) ⌝ }
 {
     let answer = lent::list::segments(log, kind, list);
     answers::of_segments(answer)

@@ -9,6 +9,7 @@ ghost use lib.ListN.{length, drop};
 ghost use Rattle.model.specs.Questions.{mostSegments};
 ghost use Rattle.model.specs.Calls.{segmentOf, segmentsCase, segmentsOutcome, filledList};
 ghost use Rattle.model.specs.Arrays.{segmentsIn};
+ghost use Rattle.model.specs.Demands.{SegmentsPromise};
 
 // Copies segments into the first places of a list. The loop reads the arrays itself: a call that takes them by value copies
 // them whole for each segment.
@@ -29,9 +30,9 @@ fn fill(segments: Segments, list: &mut [Segment])
     }
 }
 
-// The segments of a log, in the first places of a list of 255 or more.
+// The segments of a log, in the first places of a list of 255 or more; any order of the log's records gives the same.
 pub fn segments(log: &[u8], kind: u8, list: &mut [Segment]) -> SegmentsAnswer
-    ensures { λ r. ⌜ (segmentsCase r ≡ segmentsOutcome kind (now (log .entry)) (length (now (list .entry)))) × (now (list .exit) ≡ filledList kind (now (log .entry)) (now (list .entry))) ⌝ }
+    ensures { λ r. ⌜ (segmentsCase r ≡ segmentsOutcome kind (now (log .entry)) (length (now (list .entry)))) × (now (list .exit) ≡ filledList kind (now (log .entry)) (now (list .entry))) × SegmentsPromise kind (now (log .entry)) (now (list .entry)) (segmentsCase r) (now (list .exit)) ⌝ }
 {
     let found = segments::find_in_log(log, kind, list.len());
     fill(found.segments, list);

@@ -3,3 +3,4 @@ pub mod Page
 pub mod Cases
 pub mod WindowCases
 pub mod TwinCases
+pub mod OrderCases

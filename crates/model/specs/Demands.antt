@@ -2,13 +2,13 @@
 -- tool promise to answer as the definitions do, so that each statement is one about the calls.
 use Prim.Native.Nat.{ℕ, suc, _+_, _*_, _^_, _≤_, _<_, min}
 use mathlib.Core.Bool.{true, false}
-use mathlib.Core.List.{List, [], _∷_, _++_, map, List·Memᴰ}
+use mathlib.Core.List.{List, [], _∷_, _++_, map, List·Memᴰ, List·Permᴰ}
 use mathlib.Core.Logic.{_⊎_, _↔_}
 use mathlib.Core.Option.{Option, none, some}
 use mathlib.Core.Path.{_≡_}
 use lib.IntN.{ℤ, pos}
 use lib.ListN.{length, getD, take}
-use Rattle.model.specs.Common.{sumOf}
+use Rattle.model.specs.Common.{sumOf, listFrom, joined}
 use Rattle.model.specs.Spans.{Span, groupCount, frameCount, spanLength, meets, adjacent}
 use Rattle.model.specs.Log.{recordLength, recordAt, recordCount, records, recordPart, withoutTwins, meeting, sum, greatestKind, aggregated, value}
 use Rattle.model.specs.Blocks.{segmentAt, gap, totals, rowValue, errorWith, blockError}
@@ -247,6 +247,40 @@ pub record TwinRecords : Type 0 where
   -- twice is once
   pub twice : (log : List ℕ) → withoutTwins (withoutTwins log) ≡ withoutTwins log
 
+-- Any order of the log: records that arrive shuffled give what they give in any other order.
+
+-- two logs hold the same records, in whatever order
+abbrev pub SameRecords : List ℕ → List ℕ → Type 0
+SameRecords log other = List·Permᴰ (records log) (records other)
+
+-- two logs that pass every question and hold the same records
+pub record Shuffled (log other : List ℕ) : Type 0 where
+  pub passes : AllPass (logQuestions log)
+  pub otherPasses : AllPass (logQuestions other)
+  pub sameRecords : SameRecords log other
+
+-- two queries that answer so and leave these slots: both are accepted, with as many rows, the same error and as many cuts weighed,
+-- and the first 768 bytes of their slots are equal; or both are refused with the same one of 10 and 20
+abbrev pub SameAnswer : Outcome Counts → List ℕ → Outcome Counts → List ℕ → Type 0
+SameAnswer says slot otherSays otherSlot =
+    ((counts : Counts) × (says ≡ accepted counts) × (otherSays ≡ accepted counts)
+    × (take slotLength slot ≡ take slotLength otherSlot))
+    ⊎ ((number : ℕ) × ((number ≡ 10) ⊎ (number ≡ 20)) × (says ≡ refused number 0) × (otherSays ≡ refused number 0))
+
+pub record AnyOrder : Type 0 where
+  -- logs that pass hold the same records exactly where each record of the one is a record of the other
+  pub sameRecords : (log other : List ℕ) → Bytes log → Bytes other → AllPass (logQuestions log) → AllPass (logQuestions other)
+      → SameRecords log other ↔ ((r : Span ℕ) → List·Memᴰ r (records log) ↔ List·Memᴰ r (records other))
+  -- the records of a log that passes, nine bytes each, put one after the other by any order of their indices, are such another log
+  pub anyShuffle : (log indices : List ℕ) → AllPass (logQuestions log)
+      → List·Permᴰ (listFrom 0 (recordCount log) (λ i. i)) indices → Shuffled log (joined (recordPart log) indices)
+  pub segments : (kind : ℕ) (log other : List ℕ) → Shuffled log other → logSegments kind log ≡ logSegments kind other
+  -- every query in order itself, by a bound or by windows, with slots long enough
+  pub query : (q : RuledQuery) (log other slot otherSlot : List ℕ) → Shuffled log other
+      → kindKnown (q .kind) ≡ true → (ruleQuestion q) .passed ≡ true → slotLength ≤ length slot → slotLength ≤ length otherSlot
+      → SameAnswer (ruledOutcome q log (length slot)) (ruledSlot q log slot)
+      (ruledOutcome q other (length otherSlot)) (ruledSlot q other otherSlot)
+
 -- Halves go up: what the upper number at a half changes, and what comes out equal. What was before is in `LowerHalves`, asked the
 -- questions of now.
 
@@ -341,13 +375,23 @@ pub record FilePromise (log : List ℕ) (says : Outcome ℕ) (after : List ℕ) 
   pub eachOnce : (n : ℕ) → says ≡ accepted n → EachOnce log (take n after)
   pub passes : (n : ℕ) → says ≡ accepted n → AllPass (logQuestions (take n after))
 
+-- what a call says of a log and leaves in what was lent is what the definitions give for every log with the same records
+abbrev pub ForAnyOrder : {A B : Type 0} → List ℕ → (List ℕ → Outcome A) → (List ℕ → B) → Outcome A → B → Type 0
+ForAnyOrder log saysOf leaves says after =
+    (other : List ℕ) → Shuffled log other → (says ≡ saysOf other) × (after ≡ leaves other)
+
+-- a segment call that answers so and leaves this list: the same for any order of the records
+pub record SegmentsPromise (kind : ℕ) (log : List ℕ) (list : List Segment) (says : Outcome ℕ) (after : List Segment) : Type 0 where
+  pub anyOrder : ForAnyOrder log (λ other. segmentsOutcome kind other (length list)) (λ other. filledList kind other list) says after
+
 -- a query that answers so and leaves this slot: its number of cuts weighed; best rows where it is accepted, and for kind 3 none
--- that falls short; 'too few rows' where no rows do, and there alone
+-- that falls short; 'too few rows' where no rows do, and there alone; the same for any order of the records
 pub record QueryPromise (q : Query) (log slot : List ℕ) (says : Outcome Counts) (after : List ℕ) : Type 0 where
   pub weighed : cutsWeighed says ≡ queryWeighed q log (length slot)
   pub best : (counts : Counts) → says ≡ accepted counts → BestSlot q log after
   pub neverShort : (counts : Counts) → says ≡ accepted counts → NeverShort q log (readRows after)
   pub tooFew : slotLength ≤ length slot → AllPass (orderQuestions q log) → SaysTooFew q log says
+  pub anyOrder : ForAnyOrder log (λ other. queryOutcome q other (length slot)) (λ other. querySlot q other slot) says after
 
 -- the slot of a query by windows is read to the span aggregation of the log, with error 0, and no cut was weighed
 pub record SpanSlot (q : RuledQuery) (log slot : List ℕ) (counts : Counts) : Type 0 where
@@ -367,13 +411,16 @@ pub record WindowPromise (q : RuledQuery) (log slot : List ℕ) (says : Outcome 
   pub notTooFew : (index : ℕ) → says ≡ refused 10 index → ⊥
   pub tooMany : slotLength ≤ length slot → AllPass (ruledOrder q log) → SaysTooMany q log says
 
--- a query by a rule: the promise of its bound, or of its windows
+-- a query by a rule: the promise of its bound, or of its windows; the same for any order of the records
 pub record RuledPromise (q : RuledQuery) (log slot : List ℕ) (says : Outcome Counts) (after : List ℕ) : Type 0 where
   pub bounded : (bound : Bound) → boundIn (q .rule) ≡ some bound → QueryPromise (withBound q bound) log slot says after
   pub windowed : boundIn (q .rule) ≡ none → WindowPromise q log slot says after
+  pub anyOrder : ForAnyOrder log (λ other. ruledOutcome q other (length slot)) (λ other. ruledSlot q other slot) says after
 
--- the same of a query by letter, for the bound that the letter names
+-- the same of a query by letter, for the bound that the letter names; the same for any order of the records
 pub record LetterPromise (kind letter x : ℕ) (log slot : List ℕ) (says : Outcome Counts) (after : List ℕ) : Type 0 where
   pub weighed : cutsWeighed says ≡ letterWeighed kind letter x log (length slot)
   pub named : (bound : Bound) → boundOf letter x ≡ some bound
       → QueryPromise (record { kind = kind; bound = bound }) log slot says after
+  pub anyOrder : ForAnyOrder log (λ other. letterOutcome kind letter x other (length slot)) (λ other. letterSlot kind letter x other slot)
+      says after

@@ -1,5 +1,6 @@
-// The tool's calls. Each answers every input, says by equation with the definitions what it answers and what the places
-// lent to it hold afterwards, and a query promises the third demand besides: its rows are best.
+// The tool's calls. Each answers every input and says by equation with the definitions what it answers and what the places
+// lent to it hold afterwards. A query promises besides, in one record, the third demand, that its rows are best, and that any
+// order of the log's records gives the same.
 use model::Bound;
 use model::LogAnswer;
 use model::LookupAnswer;

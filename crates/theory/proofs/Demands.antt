@@ -26,7 +26,7 @@ use Rattle.model.specs.LowerHalves.{lowerReducedTo, lowerAnswer}
 use Rattle.model.specs.Guarantee.{Choices, BestRows}
 use Rattle.model.specs.Fitting.{FitsFor}
 use Rattle.model.specs.Demands.{AllPass, Demand1, Demand2, Demand3, HalvesUp, CutBy, Cut, LowerCut, Reduces, Storable, Reads, whole, listsFor, BestSlot, NeverShort}
-use Rattle.model.specs.Demands.{SpanAggregation, SpanSlot, QueryPromise, RuledPromise, LetterPromise}
+use Rattle.model.specs.Demands.{SpanAggregation, SpanSlot, Shuffled, QueryPromise, RuledPromise, LetterPromise}
 use Rattle.model.specs.declared.Bound.{Bound}
 use Rattle.model.specs.declared.Bound.the-variants.{Rows, Share}
 use Rattle.model.specs.declared.Query.{Query}
@@ -49,6 +49,7 @@ use Rattle.theory.proofs.Guarantee.{limitOf}
 use Rattle.theory.proofs.Answer.{cutsTo, answer-reduces, best-rows, count-le, too-few-rows, only-least, never-short}
 use Rattle.theory.proofs.Empty.{nothing-fits, empty-log}
 use Rattle.theory.proofs.Windows.{aggregation, only, window-rows-known, window-rows-sorted, frame-by-frame}
+use Rattle.theory.proofs.Order.{query-any-order, ruled-any-order}
 use Rattle.theory.proofs.Ruled.{bound-outcome, bound-slot, accepted-windows, too-many, not-too-few}
 
 -- Demand 1
@@ -301,6 +302,7 @@ query-promise q log slot says after answers holds =
       best = λ counts e. rw holds (best q log slot counts (sym answers ∙ e));
       neverShort = λ counts e. rw holds (slot-never-short q log _ (best q log slot counts (sym answers ∙ e)));
       tooFew = rw answers (demand3 .tooFew q log slot);
+      anyOrder = query-any-order q log slot says after answers holds;
     }
 
 -- and the same of a query by a rule
@@ -317,6 +319,7 @@ ruled-promise q log slot says after answers holds =
             notTooFew = λ index refuses. not-too-few q e log (length slot) index (sym answers ∙ refuses);
             tooMany = rw answers (too-many q e log (length slot));
           };
+      anyOrder = ruled-any-order q log slot says after answers holds;
     }
 
 -- and the same of a query by letter
@@ -325,7 +328,7 @@ pub letter-promise : (kind letter x : ℕ) (log slot : List ℕ) (says : Outcome
     → LetterPromise kind letter x log slot says after
 unfolding letterOutcome letterSlot letterWeighed
 letter-promise kind letter x log slot says after answers holds =
-    record { weighed = by (boundOf letter x) refl; named = named }
+    record { weighed = by (boundOf letter x) refl; named = named; anyOrder = λ other both. order other both (boundOf letter x) refl }
   where
     named : (bound : Bound) → boundOf letter x ≡ some bound
         → QueryPromise (record { kind = kind; bound = bound }) log slot says after
@@ -341,3 +344,10 @@ letter-promise kind letter x log slot says after answers holds =
         (ap cutsWeighed asked ∙ weighed-asked (letterQuestions kind (length slot)) none-given
         ∙ lent-same (letterQuestions kind (length slot)) 0)
     by (some bound) e = rw (e, letterWeighed) (named bound e .weighed)
+
+    -- no letter but those of bounds asks for the log
+    order : (other : List ℕ) → Shuffled log other → (o : Option Bound) → boundOf letter x ≡ o
+        → (says ≡ letterOutcome kind letter x other (length slot)) × (after ≡ letterSlot kind letter x other slot)
+    order other both none e = (answers ∙ rw (e, letterOutcome), holds ∙ rw (e, letterSlot))
+    order other both (some bound) e =
+        let (answer, left) = named bound e .anyOrder other both in (rw (e, letterOutcome) answer, rw (e, letterSlot) left)

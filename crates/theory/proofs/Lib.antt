@@ -25,6 +25,8 @@ pub mod Stored
 pub mod Windows
 pub mod Ruled
 pub mod Twins
+pub mod Permuted
+pub mod Order
 pub mod Guarantee
 pub mod Answer
 pub mod Halves
@@ -39,3 +41,4 @@ pub mod RefutedReductions
 pub mod RefutedCalls
 pub mod RefutedWindows
 pub mod RefutedTwins
+pub mod RefutedOrder

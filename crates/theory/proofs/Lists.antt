@@ -35,6 +35,12 @@ listFrom-cong h k from (suc count) e =
     ap (λ (a : _). a ∷ listFrom (suc from) count h) (e from (omega arith) (omega arith))
     ∙ ap (λ (l : List _). k from ∷ l) (listFrom-cong h k (suc from) count (λ i a b. e i (omega arith) (omega arith)))
 
+-- the list of what is made of each element
+pub map-listFrom : {A B : Type 0} (h : A → B) (k : ℕ → A) (from count : ℕ) → map h (listFrom from count k) ≡ listFrom from count (λ i. h (k i))
+unfolding listFrom
+map-listFrom h k from zero = refl
+map-listFrom h k from (suc count) = ap (λ l. h (k from) ∷ l) (map-listFrom h k (suc from) count)
+
 -- segment i of the first n
 pub segment-at : (h : ℕ → Span ℕ) (n i : ℕ) → i < n → segmentAt (listFrom 0 n h) i ≡ h i
 unfolding segmentAt

@@ -159,6 +159,11 @@ module _ {A : Type 0} where
   all-lent [] given kept all = refl
   all-lent (q ∷ qs) given kept all = rw (all-head q qs all) (all-lent qs given kept (all-tail q qs all))
 
+  pub lent-behind : (ps qs : List Question) (given kept : A) → AllPass ps → lent (ps ++ qs) given kept ≡ lent qs given kept
+  unfolding lent
+  lent-behind [] qs given kept all = refl
+  lent-behind (p ∷ ps) qs given kept all = rw (all-head p ps all) (lent-behind ps qs given kept (all-tail p ps all))
+
   -- a refusal keeps what was lent
   pub refused-lent : {B : Type 0} (qs : List Question) (b : B) (n i : ℕ) (given kept : A) → outcome qs b ≡ refused n i
       → lent qs given kept ≡ kept

@@ -1,25 +1,25 @@
 -- A query by a rule: with a bound it is the query by that bound, in its questions, its answer and its slot; by windows it is refused
 -- with 20 exactly where its rows are more than 64, and never with 10. Assumes nothing.
-use Prim.Native.Nat.{ℕ, zero, suc, _≤_, _<_}
-use mathlib.Core.Bool.{true, false, cond}
+use Prim.Native.Nat.{ℕ, _≤_}
+use mathlib.Core.Bool.{true, cond}
 use mathlib.Core.List.{List, [], _∷_, _++_}
-use mathlib.Core.Logic.{_↔_}
+use mathlib.Core.Logic.{_⊎_, inl, inr}
 use mathlib.Core.Option.{Option, none, some}
-use mathlib.Core.Path.{_≡_, refl, sym, ap, _∙_, subst}
+use mathlib.Core.Path.{_≡_, refl, sym, ap, _∙_}
 use native.Mathlib.Omega.{arith}
 use lib.Dec.{leb}
 use lib.ListN.{length}
 use borrow.Author.Tests.{leb-true, leb-false, le-leb, lt-leb}
-use Rattle.model.specs.Spans.{Span}
 use Rattle.model.specs.Log.{recordCount}
 use Rattle.model.specs.Split.{mostRows}
 use Rattle.model.specs.Windows.{boundIn}
 use Rattle.model.specs.Slot.{slotLength}
-use Rattle.model.specs.Questions.{Question, Outcome, refused, accepted, ask, askRoom, outcome, spanQuestions, recordQuestions, twinQuestions, logQuestions, orderQuestions, queryQuestions}
+use Rattle.model.specs.Questions.{Question, refused, accepted, ask, askRoom, outcome, spanQuestions, recordQuestions, twinQuestions, logQuestions, orderQuestions, queryQuestions}
 use Rattle.model.specs.Questions.{withBound, windowRows, ruleQuestion, rowsQuestion, ruledOrder, ruledQuestions}
-use Rattle.model.specs.Calls.{Counts, countsOf, queryOutcome, querySlot, ruledAnswer, ruledMark, ruledOutcome, ruledSlot}
-use Rattle.model.specs.Demands.{AllPass, SpanAggregation, SaysTooMany}
+use Rattle.model.specs.Calls.{Counts, countsOf, queryOutcome, querySlot, ruleOf, ruledAnswer, ruledMark, ruledOutcome, ruledSlot}
+use Rattle.model.specs.Demands.{AllPass, SaysTooMany}
 use Rattle.model.specs.declared.Bound.{Bound}
+use Rattle.model.specs.declared.Bound.the-variants as bound
 use Rattle.model.specs.declared.Rule.{Rule}
 use Rattle.model.specs.declared.Rule.the-variants.{Rows, Share, Every, Scenes}
 use Rattle.model.specs.declared.RuledQuery.{RuledQuery}
@@ -29,6 +29,12 @@ use Rattle.theory.proofs.Asking.{Holds, holds-append, holds-each, refus
 use Rattle.theory.proofs.Windows.{aggregation, only}
 
 -- ---- with a bound
+
+-- the bound of a query by a rule that was made of it
+pub bound-back : (bound : Bound) → boundIn (ruleOf bound) ≡ some bound
+unfolding ruleOf boundIn
+bound-back (bound.Rows c) = refl
+bound-back (bound.Share p) = refl
 
 module _ (q : RuledQuery) (bound : Bound) (is : boundIn (q .rule) ≡ some bound) where
   pub bound-order : (log : List ℕ) → ruledOrder q log ≡ orderQuestions (withBound q bound) log
@@ -71,6 +77,26 @@ log-numbers log = (
   ),
 )
 
+-- ---- 10 or 20
+
+module _ (q : RuledQuery) (log : List ℕ) where
+  -- where the questions ahead are passed, this one decides
+  pub rows-decide : (room : ℕ) → slotLength ≤ room → AllPass (ruledOrder q log)
+      → ruledOutcome q log room ≡ outcome (rowsQuestion q log ∷ []) (countsOf (ruledAnswer q log))
+  unfolding ruledOutcome ruledQuestions askRoom ask outcome
+  rows-decide room fits order =
+      rw (le-leb slotLength room fits) (outcome-behind (ruledOrder q log) _ (countsOf (ruledAnswer q log)) order)
+
+  -- it is one of the two, without an index
+  pub rows-number : (((rowsQuestion q log) .number ≡ 10) ⊎ ((rowsQuestion q log) .number ≡ 20)) × ((rowsQuestion q log) .index ≡ 0)
+  unfolding rowsQuestion ask
+  rows-number = by (boundIn (q .rule)) refl
+    where
+      by : (o : Option Bound) → boundIn (q .rule) ≡ o
+          → (((rowsQuestion q log) .number ≡ 10) ⊎ ((rowsQuestion q log) .number ≡ 20)) × ((rowsQuestion q log) .index ≡ 0)
+      by none e = rw (e, rowsQuestion) (inr refl, refl)
+      by (some bound) e = rw (e, rowsQuestion) (inl refl, refl)
+
 -- ---- by windows
 
 module _ (q : RuledQuery) (windowed : boundIn (q .rule) ≡ none) (log : List ℕ) (room : ℕ) where
@@ -79,9 +105,8 @@ module _ (q : RuledQuery) (windowed : boundIn (q .rule) ≡ none) (log : List �
       → ruledOutcome q log room
       ≡ cond (leb (length (windowRows q log)) mostRows) (accepted (record { rows = length (windowRows q log); error = 0; weighed = 0 }))
       (refused 20 0)
-  unfolding ruledOutcome ruledQuestions rowsQuestion ruledAnswer windowRows askRoom ask outcome countsOf
-  windows-decide fits order =
-      rw (le-leb slotLength room fits, outcome-behind (ruledOrder q log) _ (countsOf (ruledAnswer q log)) order, windowed, rowsQuestion, ruledAnswer)
+  unfolding rowsQuestion ruledAnswer windowRows ask outcome countsOf
+  windows-decide fits order = rows-decide q log room fits order ∙ rw (windowed, rowsQuestion, ruledAnswer)
 
   -- an accepted query has room and at most 64 rows, and passes the questions ahead of 20
   pub accepted-windows : (counts : Counts) → ruledOutcome q log room ≡ accepted counts

@@ -208,10 +208,14 @@ module _ (mark kind error : ℕ) (rows : List (Span ℕ)) where
   unfolding usedBytes bytesOf
   length-usedBytes = omega (arith, length-rowsBytes rows)
 
-  -- a slot's length
+  -- a slot's length, and what it is at least, whatever the rows
   pub length-slotBytes : length rows ≤ mostRows → length (slotBytes mark kind error rows) ≡ slotLength
   unfolding slotBytes slotLength mostRows
   length-slotBytes few = simp (length-append, length-replicate, length-usedBytes) (omega arith)
+
+  pub long-slotBytes : slotLength ≤ length (slotBytes mark kind error rows)
+  unfolding slotBytes slotLength
+  long-slotBytes = simp (length-append, length-replicate) (omega arith)
 
 -- ---- what is written is read back
 

@@ -2,30 +2,29 @@
 -- order of first appearance, and nothing else does; it passes every question of a log, and a log without twins comes out as it was.
 -- Assumes nothing.
 use Prim.Native.Nat.{ℕ, zero, suc, _+_, _*_, _%_, _≤_, _<_}
-use mathlib.Core.Bool.{Bool, true, false, _&&_, not, cond}
+use mathlib.Core.Bool.{true, false, not, cond}
 use mathlib.Core.List.{List, [], _∷_, _++_, List·Memᴰ, List·Memᴰ·head, List·Memᴰ·tail, List·Memᴰ·not-nil, List·Memᴰ·cases-cons}
 use mathlib.Core.Logic.{_↔_, ⊎-elim}
 use mathlib.Core.Path.{_≡_, refl, sym, ap, _∙_, subst}
 use native.Mathlib.Nat.{zero-add, add-zero, add-suc, le-refl}
 use native.Mathlib.Numerals.{add-one}
 use native.Mathlib.Omega.{arith}
-use lib.Dec.{leb, ltb, eqb}
+use lib.Dec.{ltb, eqb}
 use lib.ListN.{length, getD, take, drop, length-append, length-drop}
 use lib.Seq.{length-take-le, take-all, take-at, drop-append-add, getD-take, getD-drop}
 use borrow.Author.Tests.{eqb-true, eq-eqb, ltb-true, ltb-false, le-leb, leb-true}
 use Rattle.model.specs.Common.{listFrom, every, joined, numberAt}
 use Rattle.model.specs.Log.{recordLength, recordAt, recordCount, recordPart, twins, isFirst, firstsOf, withoutTwins}
-use Rattle.model.specs.Questions.{ask, each, marked, groupKnown, spanQuestions, recordQuestions, mostRecords, twinQuestions, fileQuestions, logQuestions}
+use Rattle.model.specs.Questions.{ask, each, marked, spanQuestions, recordQuestions, mostRecords, twinQuestions, fileQuestions, logQuestions}
 use Rattle.model.specs.Questions.{accepted, withoutTwinsQuestions}
 use Rattle.model.specs.Calls.{withoutTwinsOutcome, withoutTwinsBuffer}
 use Rattle.model.specs.Demands.{AllPass, Bytes, Distinct, FirstAt, EachOnce, TwinRecords, FilePromise}
 use Rattle.theory.proofs.Tests.{true≢false, cases, and-true, true-and}
 use Rattle.theory.proofs.Refusals.{all-nil, all-cons, all-head, all-tail, all-each, all-at, outcome-accepted, all-lent}
 use Rattle.theory.proofs.Asking.{file-passed, woven-others, all-woven}
-use Rattle.theory.proofs.SlotLaws.{member-at, length-listFrom, listFrom-of, take-more}
+use Rattle.theory.proofs.SlotLaws.{member-at, listFrom-of, take-more}
 use Rattle.theory.proofs.Frames.{Heads, Chain, heads-map, chain-member, chain-later}
 use Rattle.theory.proofs.Converse.{listFrom-member, member-listFrom}
-use Rattle.theory.proofs.Lists.{listFrom-at}
 use Rattle.theory.proofs.Every.{every-at, every-of, every-not}
 use Rattle.theory.proofs.Windows.{listFrom-chain, same-members, joined-member}
 
@@ -188,7 +187,7 @@ module _ (log : List ℕ) where
       let rest = length-joined ks (λ j m. inside j (List·Memᴰ·tail m)) in
       omega (arith, length-append (recordPart log k) (joined (recordPart log) ks))
 
-  joined-part : (ks : List ℕ) → ((k : ℕ) → List·Memᴰ k ks → k < recordCount log) → (k : ℕ) → k < length ks
+  pub joined-part : (ks : List ℕ) → ((k : ℕ) → List·Memᴰ k ks → k < recordCount log) → (k : ℕ) → k < length ks
       → recordPart (joined (recordPart log) ks) k ≡ recordPart log (getD ks k 0)
   unfolding joined recordPart recordLength
   joined-part [] inside k lt = absurd (omega arith)
@@ -202,6 +201,10 @@ module _ (log : List ℕ) where
       ∙ drop-append-add (recordPart log i) (joined (recordPart log) ks) (9 * k))
       ∙ joined-part ks (λ j m. inside j (List·Memᴰ·tail m)) k (omega arith)
 
+  pub joined-count : (ks : List ℕ) → ((k : ℕ) → List·Memᴰ k ks → k < recordCount log) → recordCount (joined (recordPart log) ks) ≡ length ks
+  unfolding recordCount recordLength
+  joined-count ks inside = omega (arith, length-joined ks inside)
+
   abbrev out : List ℕ
   out = withoutTwins log
 
@@ -213,8 +216,8 @@ module _ (log : List ℕ) where
   out-length = length-joined kept kept-inside
 
   out-count : recordCount out ≡ length kept
-  unfolding recordCount recordLength
-  out-count = omega (arith, out-length)
+  unfolding withoutTwins
+  out-count = joined-count kept kept-inside
 
   out-part : (k : ℕ) → k < recordCount out → recordPart out k ≡ recordPart log (at k)
   unfolding withoutTwins
@@ -346,7 +349,7 @@ module _ (log other : List ℕ) (i j : ℕ) (same : recordPart log i ≡ recordP
       let high = rw (add-suc (9 * i) d, add-suc (9 * j) d) at (same-byte (suc d) lt) in
       omega arith
 
-  same-record : recordAt log (9 * i) ≡ recordAt other (9 * j)
+  pub same-record : recordAt log (9 * i) ≡ recordAt other (9 * j)
   unfolding recordAt
   same-record = λ k.
       record {
@@ -391,25 +394,30 @@ exactly log = (
       (λ j a b. all-cons _ _ (distinct-firsts log apart j (omega arith)) all-nil)))),
 )
 
+-- no more records of a log than it has, joined by their indices, pass what the log passes
+pub joined-passes : (log ks : List ℕ) → ((k : ℕ) → List·Memᴰ k ks → k < recordCount log) → length ks ≤ recordCount log
+    → AllPass (fileQuestions log) → AllPass (fileQuestions (joined (recordPart log) ks))
+unfolding fileQuestions ask recordLength
+joined-passes log ks inside no-more file =
+    let rest = all-tail _ _ file in
+    let few = leb-true (recordCount log) mostRecords (all-head _ _ rest) in
+    let out : List ℕ = joined (recordPart log) ks in
+    let count = joined-count log ks inside in
+    all-cons _ _ (eq-eqb (length out % 9) 0 (omega (arith, length-joined log ks inside)))
+    (all-cons _ _ (le-leb (recordCount out) mostRecords (omega arith))
+    (all-each (recordQuestions out) 0 (recordCount out)
+    (λ k a b.
+    let lt : k < length ks = omega arith in
+    let there = inside (getD ks k 0) (member-at 0 ks k lt) in
+    same-passed log out (getD ks k 0) k (sym (joined-part log ks inside k lt))
+    (all-at (recordQuestions log) 0 (recordCount log) (all-tail _ _ rest) (getD ks k 0) (omega arith) (omega arith)))))
+
 -- what is written of a log on file passes every question of a log
 pub passes : (log : List ℕ) → AllPass (fileQuestions log) → AllPass (logQuestions (withoutTwins log))
-unfolding fileQuestions ask recordLength firstsOf
-passes log file = exactly (withoutTwins log) .1 (written, each-once log .once)
-  where
-    written : AllPass (fileQuestions (withoutTwins log))
-    written =
-        let rest = all-tail _ _ file in
-        let few = leb-true (recordCount log) mostRecords (all-head _ _ rest) in
-        let count = out-count log in
-        let kept = kept-few log 0 (recordCount log) in
-        all-cons _ _ (eq-eqb (length (withoutTwins log) % 9) 0 (omega (arith, out-length log)))
-        (all-cons _ _ (le-leb (recordCount (withoutTwins log)) mostRecords (omega arith))
-        (all-each (recordQuestions (withoutTwins log)) 0 (recordCount (withoutTwins log))
-        (λ k a b.
-        let lt : k < recordCount (withoutTwins log) = omega arith in
-        let there = kept-at log k (omega arith) .0 in
-        same-passed log (withoutTwins log) (at log k) k (sym (out-part log k lt))
-        (all-at (recordQuestions log) 0 (recordCount log) (all-tail _ _ rest) (at log k) (omega arith) (omega arith)))))
+unfolding withoutTwins firstsOf
+passes log file =
+    exactly (withoutTwins log) .1
+    (joined-passes log (kept log) (kept-inside log) (kept-few log 0 (recordCount log)) file, each-once log .once)
 
 -- numbers in two bytes are equal where the bytes are
 two-same : (log : List ℕ) (p q : ℕ) → Bytes log → numberAt 2 log p ≡ numberAt 2 log q

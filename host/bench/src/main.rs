@@ -92,6 +92,13 @@ const FEW_SHAPES: [Shape; 2] = [
     },
 ];
 
+/// The records of a log with random values, not in the order of their frames.
+const SHUFFLED: Shape = Shape {
+    name: "random, shuffled",
+    kind: Kind::SUM.0,
+    log: |n| shuffled(&random(n)),
+};
+
 /// Values 1 and 2 in turn, one frame each: hardly any block error alone exceeds a best total.
 fn alternating(n: usize) -> Vec<u8> {
     if n <= 128 {
@@ -124,6 +131,15 @@ fn noise(i: usize) -> usize {
     z = (z ^ (z >> 30)).wrapping_mul(0xBF58_476D_1CE4_E5B9);
     z = (z ^ (z >> 27)).wrapping_mul(0x94D0_49BB_1331_11EB);
     ((z ^ (z >> 31)) >> 33) as usize
+}
+
+/// The same records in an order that looks random.
+fn shuffled(log: &[u8]) -> Vec<u8> {
+    let mut records: Vec<&[u8]> = log.chunks(9).collect();
+    for place in (1..records.len()).rev() {
+        records.swap(place, noise(3000 + place) % (place + 1));
+    }
+    records.concat()
 }
 
 /// Random values and lengths in one run.
@@ -734,6 +750,8 @@ fn main() {
     println!("of runs, which is refused, has no row. Rows by windows have one plain version, which goes from");
     println!("window to window over those that no record meets; 'no 20' is the refusal of more than 64 rows.");
     println!("Only logs of 'without_twins', the call for logs on file, hold equal records.");
+    println!("A row named 'shuffled' has the records of the row without that word in another order, and the");
+    println!("same answer.");
 
     head("n bound          rows   weighed", 2);
     for shape in &SHAPES {
@@ -762,6 +780,20 @@ fn main() {
         }
     }
 
+    // 128 records, and as many segments.
+    let (in_order, log) = (random(128), (SHUFFLED.log)(128));
+    let n = count_segments(&log, SHUFFLED.kind);
+    let mut bounds = vec![(c::ROWS, 4), (c::ROWS, 64)];
+    bounds.extend(share_met(&log, SHUFFLED.kind).map(|share| (c::SHARE, share)));
+    for (rule, bound) in bounds {
+        let answers = [&in_order, &log].map(|log| {
+            let mut slot = [0; 768];
+            (c::query(SHUFFLED.kind, rule, bound, log, &mut slot), slot)
+        });
+        assert_eq!(answers[0], answers[1]);
+        query_line(&mut report, &SHUFFLED, n, &log, rule, bound);
+    }
+
     head("n", 1);
     for shape in &SHAPES {
         for wanted in SIZES {
@@ -773,6 +805,12 @@ fn main() {
             segments_line(&mut report, shape, &(shape.log)(n));
         }
     }
+    let lists = [&in_order, &log].map(|log| {
+        let mut list = [c::Segment::default(); 255];
+        (c::segments(log, SHUFFLED.kind, &mut list), list)
+    });
+    assert_eq!(lists[0], lists[1]);
+    segments_line(&mut report, &SHUFFLED, &log);
 
     head("records  kept", 1);
     without_twins_lines(&mut report);
@@ -783,6 +821,23 @@ fn main() {
             windows_line(&mut report, &spans, kind);
         }
     }
+    let in_order = spans()
+        .into_iter()
+        .find(|spans| spans.name == "beats of 600, 8 groups")
+        .expect("the data for windows");
+    let log = shuffled(&in_order.log);
+    let answers = [&in_order.log, &log].map(|log| {
+        let mut slot = [0; 768];
+        let answer = in_order.windows.library(Kind::SUM.0, log, &mut slot);
+        (answer, slot)
+    });
+    assert_eq!(answers[0], answers[1]);
+    let spans = Spans {
+        name: "beats of 600, 8 groups, shuffled",
+        log,
+        ..in_order
+    };
+    windows_line(&mut report, &spans, Kind::SUM);
 
     head("rows", 1);
     let sizes = [0, 6, 20, 64];

@@ -1,6 +1,7 @@
 //! One case: all calls of the proved library against the independent implementation.
 
 use crate::inputs;
+use crate::order::{self, Ask, Shuffled};
 use crate::random::Random;
 use crate::twins;
 use crate::windows;
@@ -43,6 +44,8 @@ pub struct Seen {
     pub most_segments: usize,
     pub most_rows: usize,
     pub most_weighed: u64,
+    /// Logs in another order.
+    pub order: Shuffled,
 }
 
 impl Seen {
@@ -77,6 +80,7 @@ impl Seen {
         self.most_segments = self.most_segments.max(other.most_segments);
         self.most_rows = self.most_rows.max(other.most_rows);
         self.most_weighed = self.most_weighed.max(other.most_weighed);
+        self.order.join(&other.order);
     }
 }
 
@@ -164,6 +168,10 @@ pub fn run(random: &mut Random, seen: &mut Seen) -> Result<(), String> {
     let (rule, bound) = inputs::bound(random, &expected, kind);
     let slot = query(random, kind, rule, bound, &log, seen)
         .map_err(|why| format!("kind {kind}, rule {rule:#x}, bound {bound}: {why}"))?;
+    let passes = kind <= reference::MOST_KIND && reference::ask_log(&log).is_ok();
+    if passes && random.beside().percent(10) {
+        order::ends(random, kind, &log, &mut seen.order)?;
+    }
 
     // The slot as the query left it; then that slot, or one that no query wrote, with some bytes
     // damaged.
@@ -279,6 +287,7 @@ fn segments(
         .collect();
     let mut list = before.clone();
     let answer = c::segments(log, kind, &mut list);
+    order::segments(random, kind, log, (answer, &list), &mut seen.order)?;
     let outcome = reference::segments(log, kind, 255);
     let expected = if places < 255 {
         Err(No {
@@ -353,7 +362,9 @@ fn query(
     let length = inputs::length(random, 768);
     let before = random.bytes(length);
     let mut slot = before.clone();
-    let answer = c::query(kind, rule, bound, log, &mut slot);
+    let ask = Ask::Bound(rule, bound);
+    let answer = ask.library(kind, log, &mut slot);
+    order::query(random, kind, ask, log, (answer, &slot), &mut seen.order)?;
     let expected = reference::query(kind, rule, bound, log, slot.len());
     let (question, index) = number(&expected);
     seen.query[usize::from(question)] += 1;

@@ -2,8 +2,9 @@
 
 use crate::compare::{same, stretches};
 use crate::inputs::{self, Fields};
+use crate::order::{self, Ask, Shuffled};
 use crate::random::Random;
-use pacer::{Bound, Kind, Query};
+use pacer::{c, Bound, Kind, Query};
 use reference::brute::{self, Frame};
 use reference::Stretch;
 
@@ -14,6 +15,8 @@ pub struct Tried {
     pub refused: u64,
     /// Rows for which two numbers are equally good, by kind.
     pub halves: [u64; 5],
+    /// Logs in another order.
+    pub order: Shuffled,
 }
 
 impl Tried {
@@ -23,19 +26,38 @@ impl Tried {
         for (a, b) in self.halves.iter_mut().zip(&other.halves) {
             *a += b;
         }
+        self.order.join(&other.order);
     }
 }
 
 /// What the library writes and reads back: the rows and the error, or the question.
-fn outcome(kind: u8, bound: Bound, log: &[u8]) -> Result<(Vec<Stretch>, u64), u8> {
+type Outcome = Result<(Vec<Stretch>, u64), u8>;
+
+/// The library's outcome for a bound, the same in every order of the log.
+fn outcome(
+    random: &Random,
+    kind: u8,
+    bound: Bound,
+    log: &[u8],
+    tried: &mut Tried,
+) -> Result<Outcome, String> {
     let mut slot = [0; pacer::SLOT_BYTES];
     let query = Query {
         kind: Kind(kind),
         bound,
     };
-    pacer::query(query, log, &mut slot).map_err(|refusal| refusal.question)?;
-    let profile = pacer::read(&slot).map_err(|refusal| refusal.question)?;
-    Ok((stretches(&profile), profile.error()))
+    let found = pacer::query(query, log, &mut slot);
+    let ask = match bound {
+        Bound::Rows(limit) => Ask::Bound(c::ROWS, limit),
+        Bound::Share(share) => Ask::Bound(c::SHARE, share),
+        _ => return Err("a rule that is no bound".to_string()),
+    };
+    let answer = order::answer_of(found);
+    order::query(random, kind, ask, log, (answer, &slot), &mut tried.order)?;
+    Ok(found
+        .and_then(|_| pacer::read(&slot))
+        .map(|profile| (stretches(&profile), profile.error()))
+        .map_err(|refusal| refusal.question))
 }
 
 /// The rows of the answer are a list that fits for the kind, the error is theirs, and each holds
@@ -68,6 +90,7 @@ fn fitting(
 
 /// Holds the library's answer to the error and row count of the best list, and to question 10 if there is none. Gives the rows.
 fn hold(
+    random: &Random,
     kind: u8,
     bound: Bound,
     log: &[u8],
@@ -76,7 +99,7 @@ fn hold(
     tried: &mut Tried,
 ) -> Result<Option<Vec<Stretch>>, String> {
     tried.queries += 1;
-    match (outcome(kind, bound, log), best) {
+    match (outcome(random, kind, bound, log, tried)?, best) {
         (Ok((rows, error)), Some(best)) => {
             same("error and row count", (error, rows.len()), best)?;
             fitting(kind, &rows, error, frames, tried)?;
@@ -93,6 +116,7 @@ fn hold(
 
 /// A row limit: `least` has the least error of the fitting lists of exactly k rows at place k.
 fn limit(
+    random: &Random,
     kind: u8,
     c: u16,
     log: &[u8],
@@ -106,11 +130,12 @@ fn limit(
         .enumerate()
         .filter_map(|(rows, error)| error.map(|error| (error, rows)))
         .min();
-    hold(kind, Bound::Rows(c), log, frames, best, tried)
+    hold(random, kind, Bound::Rows(c), log, frames, best, tried)
 }
 
 /// A share of the least error at the fewest rows.
 fn share(
+    random: &Random,
     kind: u8,
     p: u16,
     log: &[u8],
@@ -129,7 +154,7 @@ fn share(
         let (error, most) = ((*error)?, most?);
         (u128::from(error) * 1000 <= most).then_some((error, rows))
     });
-    hold(kind, Bound::Share(p), log, frames, best, tried)
+    hold(random, kind, Bound::Share(p), log, frames, best, tried)
 }
 
 /// One small log with all limits that matter and several shares.
@@ -151,7 +176,7 @@ pub fn run_small(random: &mut Random, tried: &mut Tried) -> Result<(), String> {
     }
     let context = |why| format!("records {records:?}, kind {kind}: {why}");
     for c in 0..=frames.len() as u16 + 1 {
-        let rows = limit(kind, c, &log, &frames, &least, tried)
+        let rows = limit(random, kind, c, &log, &frames, &least, tried)
             .map_err(|why| context(format!("limit {c}: {why}")))?;
         if let Some(rows) = rows {
             let chosen = brute::best_cutting(&segments, kind, usize::from(c), false);
@@ -169,7 +194,7 @@ pub fn run_small(random: &mut Random, tried: &mut Tried) -> Result<(), String> {
     shares.sort_unstable();
     shares.dedup();
     for p in shares {
-        let rows = share(kind, p as u16, &log, &frames, &least, tried)
+        let rows = share(random, kind, p as u16, &log, &frames, &least, tried)
             .map_err(|why| context(format!("share {p}: {why}")))?;
         if let Some(rows) = rows {
             let chosen = brute::best_cutting(&segments, kind, rows.len(), true);
@@ -253,11 +278,11 @@ pub fn run_many(random: &mut Random, tried: &mut Tried) -> Result<(), String> {
         m.min(64),
         m.saturating_sub(1).min(64),
     ] {
-        limit(kind, c as u16, &log, &frames, &least, tried)
+        limit(random, kind, c as u16, &log, &frames, &least, tried)
             .map_err(|why| context(format!("limit {c}: {why}")))?;
     }
     for p in [0, 1000, random.range(0, 10), random.range(0, 1000)] {
-        share(kind, p as u16, &log, &frames, &least, tried)
+        share(random, kind, p as u16, &log, &frames, &least, tried)
             .map_err(|why| context(format!("share {p}: {why}")))?;
     }
     Ok(())

@@ -6,15 +6,17 @@
 //! 20,000) against every fitting list, some logs of many frames against a table over their
 //! frames, for every row count the slots with one bit of the tail set, fixed logs with windows at
 //! the edges of what is allowed, as many small logs as above by windows gone through frame by
-//! frame, and long logs with twins at every two places. The seed is fixed unless one is given, and
-//! is printed. A difference is printed with the words that run its case alone, and the status is
-//! then 1.
+//! frame, and long logs with twins at every two places. Every log that is run through a query or
+//! the segment call is run again with its records in another order. The seed is fixed unless one is
+//! given, and is printed. A difference is printed with the words that run its case alone, and the
+//! status is then 1.
 
 #![forbid(unsafe_code)]
 
 mod compare;
 mod demand;
 mod inputs;
+mod order;
 mod random;
 mod tails;
 mod twins;
@@ -22,6 +24,7 @@ mod windows;
 
 use compare::{ByQuestion, Seen};
 use demand::Tried;
+use order::Shuffled;
 use random::Random;
 use std::process::ExitCode;
 use std::sync::atomic::{AtomicU64, Ordering};
@@ -97,6 +100,16 @@ struct Counts {
     gone: Gone,
 }
 
+impl Counts {
+    /// The logs in another order, whichever calls they went through.
+    fn order(&self) -> Shuffled {
+        let mut all = self.seen.order;
+        all.join(&self.tried.order);
+        all.join(&self.gone.order);
+        all
+    }
+}
+
 /// Runs all cases of a part on every processor. Gives the counts, or the first case that differs
 /// and why.
 fn run_all(part: Part, seed: u64, cases: u64) -> Result<Counts, (u64, String)> {
@@ -134,8 +147,7 @@ fn run_all(part: Part, seed: u64, cases: u64) -> Result<Counts, (u64, String)> {
             Ok(counts) => {
                 all.seen.join(&counts.seen);
                 all.tried.join(&counts.tried);
-                all.gone.queries += counts.gone.queries;
-                all.gone.rows += counts.gone.rows;
+                all.gone.join(&counts.gone);
             }
             Err(difference) => {
                 if first.as_ref().is_none_or(|(case, _)| difference.0 < *case) {
@@ -246,6 +258,32 @@ fn unreached(seen: &Seen) -> Vec<String> {
             .map(|(what, _)| what.to_string()),
     );
     missing
+}
+
+/// What the logs of a part did not have in another order, and must have.
+fn unreached_in_order(part: Part, order: &Shuffled) -> Vec<String> {
+    match part {
+        Part::Random => [
+            order.missing_segments(),
+            order.missing_by_bound(&[0, 1, 2, 3, 4]),
+            order.missing_by_windows(),
+            order.missing_too_many(),
+            order.missing_logs(),
+        ]
+        .concat(),
+        Part::Small => order.missing_by_bound(&[0, 1, 2, 3, 4]),
+        // There are no logs of counts among them.
+        Part::Many => order.missing_by_bound(&[0, 2, 3, 4]),
+        Part::Tails => Vec::new(),
+        Part::Edges => [
+            order.missing_by_windows(),
+            order.missing_too_many(),
+            order.missing_logs(),
+        ]
+        .concat(),
+        Part::Frames => order.missing_by_windows(),
+        Part::Twins => [order.missing_segments(), order.missing_logs()].concat(),
+    }
 }
 
 /// Prints what was refused for twins, and what was kept of logs on file.
@@ -422,6 +460,16 @@ fn main() -> ExitCode {
                     println!("expected {pairs} logs with twins");
                     return ExitCode::FAILURE;
                 }
+            }
+        }
+        // Slots alone have no order.
+        if part != Part::Tails {
+            let order = counts.order();
+            order.print();
+            let missing = unreached_in_order(part, &order);
+            if (part != Part::Random || cases >= CASES) && !missing.is_empty() {
+                println!("no case gave: {}", missing.join(", "));
+                return ExitCode::FAILURE;
             }
         }
     }

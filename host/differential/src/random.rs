@@ -11,6 +11,12 @@ impl Random {
         Random(mixed)
     }
 
+    /// Other numbers, which depend on those so far. Taking some of them changes none to come here.
+    pub fn beside(&self) -> Self {
+        let mut start = Random(self.0 ^ 0xE703_7ED1_A0B4_28DB);
+        Random(start.next())
+    }
+
     /// The next number.
     pub fn next(&mut self) -> u64 {
         self.0 = self.0.wrapping_add(0x9E37_79B9_7F4A_7C15);

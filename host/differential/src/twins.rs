@@ -3,7 +3,9 @@
 
 use crate::compare::{number, same, same_places, Seen};
 use crate::inputs::{self, Fields};
+use crate::order::{self, Ask};
 use crate::random::Random;
+use crate::windows::Windows;
 use pacer::c;
 use reference::{brute, No};
 
@@ -33,11 +35,13 @@ fn file(
     Ok(kept)
 }
 
-/// What the segment call of the library says of a log, by its number and index.
-fn asked(log: &[u8]) -> (u8, usize) {
+/// What the segment call of the library says of a log, by its number and index. Other orders of the
+/// log are tried too.
+fn asked(random: &Random, log: &[u8], seen: &mut Seen) -> Result<(u8, usize), String> {
     let mut list = [c::Segment::default(); pacer::SEGMENT_PLACES];
     let answer = c::segments(log, 0, &mut list);
-    (answer.question, answer.index)
+    order::segments(random, 0, log, (answer, &list), &mut seen.order)?;
+    Ok((answer.question, answer.index))
 }
 
 /// The call for logs on file: with a buffer as long as the log, one byte shorter, and longer. What
@@ -59,18 +63,18 @@ pub fn run(random: &mut Random, log: &[u8], seen: &mut Seen) -> Result<(), Strin
         }
         return Ok(());
     };
-    same("what is kept", asked(&kept), (0, 0))?;
+    same("what is kept", asked(random, &kept, seen)?, (0, 0))?;
     let mut again = vec![0; kept.len()];
     let length = pacer::without_twins(&kept, &mut again).map_err(|refusal| refusal.to_string())?;
     same_places("put through again", &again[..length], &kept)?;
     same("records left out", kept.len() + 9 * twins.len(), log.len())?;
     match twins.first() {
         None => {
-            same("log without twins", asked(log), (0, 0))?;
+            same("log without twins", asked(random, log, seen)?, (0, 0))?;
             same_places("log without twins", &kept, log)?;
         }
         Some(twin) => {
-            same("log with twins", asked(log), (21, *twin))?;
+            same("log with twins", asked(random, log, seen)?, (21, *twin))?;
             seen.cleaned += 1;
             seen.left_out += twins.len() as u64;
         }
@@ -97,23 +101,30 @@ fn different(random: &mut Random) -> Vec<Fields> {
     records
 }
 
-/// A refusal by a call that takes a log and a slot, which keeps its bytes.
+/// A query of a log with a twin, which is refused; the slot keeps its bytes. Other orders of the log
+/// are tried too.
 fn refused(
-    what: &str,
-    answer: c::QueryAnswer,
-    no: (u8, usize),
-    slot: &[u8],
+    random: &Random,
+    kind: u8,
+    ask: Ask,
+    log: &[u8],
     before: &[u8],
-) -> Result<(), String> {
+    seen: &mut Seen,
+) -> Result<(u8, usize), String> {
+    let mut slot = before.to_vec();
+    let answer = ask.library(kind, log, &mut slot);
+    let (question, index) = (answer.question, answer.index);
     let expected = c::QueryAnswer {
-        question: no.0,
-        index: no.1,
+        question,
+        index,
         rows: 0,
         error: 0,
         weighed: 0,
     };
-    same(what, answer, expected)?;
-    same_places("slot after a refusal", slot, before)
+    same("refusal", answer, expected)?;
+    same_places("slot after a refusal", &slot, before)?;
+    order::query(random, kind, ask, log, (answer, &slot), &mut seen.order)?;
+    Ok((question, index))
 }
 
 /// All calls that take a log on one whose first twin is known: each refuses it with 21 and that
@@ -122,22 +133,24 @@ fn with_twin(random: &mut Random, log: &[u8], later: usize, seen: &mut Seen) -> 
     let twin = (21, later);
     let expected = number(&reference::ask_log(log));
     same("the reference", expected, twin)?;
-    same("segments", asked(log), twin)?;
+    same("segments", asked(random, log, seen)?, twin)?;
     seen.segments[21] += 1;
     let kind = random.range(0, u64::from(reference::MOST_KIND)) as u8;
     let before = random.bytes(770);
-    let mut slot = before.clone();
     let (rule, most) = random.pick(&[(c::ROWS, 64), (c::SHARE, 1000)]);
     let bound = random.range(0, most) as u16;
-    let answer = c::query(kind, rule, bound, log, &mut slot);
-    refused("query", answer, twin, &slot, &before)?;
+    let ask = Ask::Bound(rule, bound);
+    let no = refused(random, kind, ask, log, &before, seen)?;
+    same("query", no, twin)?;
     seen.query[21] += 1;
     let (length, start) = (random.range(1, 99) as u16, random.range(0, 99) as u16);
-    let answer = c::query_beats(kind, length, start, log, &mut slot);
-    refused("by beats", answer, twin, &slot, &before)?;
+    let beats = Windows::Beats(length, start);
+    let no = refused(random, kind, Ask::Windows(&beats), log, &before, seen)?;
+    same("by beats", no, twin)?;
     seen.beats[21] += 1;
-    let answer = c::query_scenes(kind, &[start], &[start + length], log, &mut slot);
-    refused("by scenes", answer, twin, &slot, &before)?;
+    let scenes = Windows::Scenes(vec![start], vec![start + length]);
+    let no = refused(random, kind, Ask::Windows(&scenes), log, &before, seen)?;
+    same("by scenes", no, twin)?;
     seen.scenes[21] += 1;
     let kept = file(random, log, log.len(), seen)?.ok_or("a log without bad records is refused")?;
     let without = [&log[..9 * later], &log[9 * later + 9..]].concat();
@@ -157,7 +170,7 @@ pub fn run_places(random: &mut Random, later: u64, seen: &mut Seen) -> Result<()
     let later = later as usize;
     let whole = inputs::log_of(&different(random));
     let at = 9 * later..9 * later + 9;
-    same("different records", asked(&whole), (0, 0))?;
+    same("different records", asked(random, &whole, seen)?, (0, 0))?;
     for earlier in 0..later {
         let context = |why| format!("record {later} as record {earlier}: {why}");
         let mut log = whole.clone();
@@ -175,7 +188,8 @@ pub fn run_places(random: &mut Random, later: u64, seen: &mut Seen) -> Result<()
         log[at.start + bit / 8] ^= 1 << (bit % 8);
         let context = |why| format!("record {later} as record {earlier} but for bit {bit}: {why}");
         let expected = number(&reference::ask_log(&log));
-        same("segments", asked(&log), expected).map_err(context)?;
+        let found = asked(random, &log, seen).map_err(context)?;
+        same("segments", found, expected).map_err(context)?;
         let kept = file(random, &log, log.len(), seen).map_err(context)?;
         // The record may by chance be equal to a third one.
         if brute::later_twins(&log).is_empty() && kept.is_some() {

@@ -2,6 +2,7 @@
 
 use crate::compare::{number, same, same_places, slot_calls, stretches, Seen};
 use crate::inputs::{self, Fields};
+use crate::order::{self, Ask, Shuffled};
 use crate::random::Random;
 use pacer::{c, Header, Kind, Query, Rule, Scene};
 use reference::{brute, No, Stretch, Window};
@@ -44,7 +45,7 @@ impl Windows {
         }
     }
 
-    fn library(&self, kind: u8, log: &[u8], slot: &mut [u8]) -> c::QueryAnswer {
+    pub fn library(&self, kind: u8, log: &[u8], slot: &mut [u8]) -> c::QueryAnswer {
         match self {
             Windows::Beats(length, start) => c::query_beats(kind, *length, *start, log, slot),
             Windows::Scenes(firsts, lasts) => c::query_scenes(kind, firsts, lasts, log, slot),
@@ -82,7 +83,9 @@ fn query(
 ) -> Result<Vec<u8>, String> {
     let before = random.bytes(length);
     let mut slot = before.clone();
-    let answer = windows.library(kind, log, &mut slot);
+    let ask = Ask::Windows(windows);
+    let answer = ask.library(kind, log, &mut slot);
+    order::query(random, kind, ask, log, (answer, &slot), &mut seen.order)?;
     let expected = windows.reference(kind, log, length);
     let (question, index) = number(&expected);
     match windows {
@@ -349,10 +352,21 @@ pub fn run_edges(random: &mut Random, case: u64, seen: &mut Seen) -> Result<(), 
 pub struct Gone {
     pub queries: u64,
     pub rows: u64,
+    /// Logs in another order.
+    pub order: Shuffled,
+}
+
+impl Gone {
+    pub fn join(&mut self, other: &Gone) {
+        self.queries += other.queries;
+        self.rows += other.rows;
+        self.order.join(&other.order);
+    }
 }
 
 /// The library's rows for windows of a few frames, against those found at their frames.
 fn hold(
+    random: &Random,
     kind: u8,
     windows: &Windows,
     list: &[Window],
@@ -361,7 +375,9 @@ fn hold(
 ) -> Result<(), String> {
     let mut slot = [0; pacer::SLOT_BYTES];
     let expected = brute::rows_by_frames(&reference::records(log), kind, list);
-    let answer = windows.library(kind, log, &mut slot);
+    let ask = Ask::Windows(windows);
+    let answer = ask.library(kind, log, &mut slot);
+    order::query(random, kind, ask, log, (answer, &slot), &mut gone.order)?;
     let question = if expected.len() > 64 { 20 } else { 0 };
     same("question", answer.question, question)?;
     if question == 0 {
@@ -407,7 +423,7 @@ pub fn run_frames(random: &mut Random, gone: &mut Gone) -> Result<(), String> {
                 (first as u16, last as u16)
             })
             .collect();
-        hold(kind, &windows, &list, &log, gone).map_err(|why| context(&windows, why))?;
+        hold(random, kind, &windows, &list, &log, gone).map_err(|why| context(&windows, why))?;
     }
     let mut ends: Vec<u16> = (0..2 * random.range(1, 8))
         .map(|_| (base + random.range(0, span - 1)) as u16)
@@ -420,5 +436,5 @@ pub fn run_frames(random: &mut Random, gone: &mut Gone) -> Result<(), String> {
     // Scenes that share a frame with the one before are left out.
     list.dedup_by(|next, kept| next.0 <= kept.1);
     let windows = Windows::scenes(&list);
-    hold(kind, &windows, &list, &log, gone).map_err(|why| context(&windows, why))
+    hold(random, kind, &windows, &list, &log, gone).map_err(|why| context(&windows, why))
 }

@@ -44,6 +44,13 @@
 //! Every call asks its questions in order. The first that gets 'no' is the [`Refusal`], and then
 //! nothing lent to the call is changed. A log that holds a record twice is refused by question 21;
 //! [`without_twins`] is for such logs on file.
+//!
+//! Records may stand in any order, as where two consoles feed one log. Logs that pass questions 4
+//! to 9 and 21 and hold the same records, in whatever order, have the same [`segments`]; and every
+//! [`query`] in order itself, with a slot long enough, gives the same [`Reduction`], cuts weighed
+//! included, and the same 768 bytes of the slot, or is refused with the same one of 10 and 20. A
+//! log that does not pass is refused with its first 'no' in the order as lent, and the index is
+//! that of the log as lent.
 
 #![deny(unsafe_code)]
 #![warn(missing_docs)]
@@ -348,7 +355,8 @@ pub fn write_record(record: Record, buffer: &mut [u8]) -> Result<(), Refusal> {
 ///
 /// Asks questions 7, 8 and 9 of every record; the refusal's index is the record's. The number of
 /// records is not limited here, but no other call accepts more than 128; nor are equal records
-/// refused here, but by every other call except [`without_twins`].
+/// refused here, but by every other call except [`without_twins`]. The order of the records is the
+/// caller's choice: a log that those calls accept, they answer alike in every order.
 ///
 /// ```
 /// use pacer::Record;
@@ -414,6 +422,8 @@ pub fn without_twins(log: &[u8], buffer: &mut [u8]) -> Result<usize, Refusal> {
 ///
 /// Asks questions 1, 2, 4 to 9 and 21, the last after 9 of the same record.
 ///
+/// A log that passes 4 to 9 and 21 has the same segments with its records in any other order.
+///
 /// ```
 /// use pacer::{Kind, Record, Segment, SEGMENT_PLACES};
 ///
@@ -447,6 +457,9 @@ pub fn segments<'a>(
 ///
 /// Asks questions 1 to 10, and 21 of a record after its 9. By windows it asks 18 or 19 in place of
 /// 3, and 20 in place of 10.
+///
+/// A log that passes 4 to 9 and 21 gives the same answer, refusals by 10 and 20 included, and the
+/// same 768 bytes with its records in any other order.
 ///
 /// ```
 /// use pacer::{Bound, Kind, Query, Record};
@@ -495,6 +508,38 @@ pub fn segments<'a>(
 /// // Scenes in the wrong order.
 /// let query = Query { bound: Rule::Scenes(&[scenes[1], scenes[0]]), ..query };
 /// assert_eq!(pacer::query(query, &log, &mut slot).unwrap_err().question, 19);
+/// # Ok::<(), pacer::Refusal>(())
+/// ```
+///
+/// A log backwards gives the same slot, by a bound and by beats, and the same refusal:
+///
+/// ```
+/// use pacer::{Bound, Kind, Query, Record, Rule};
+///
+/// let mut records = [
+///     Record { group: 1, first: 0, last: 59, load: 200 },
+///     Record { group: 0, first: 30, last: 89, load: 350 },
+///     Record { group: 0, first: 20, last: 79, load: 310 },
+/// ];
+/// let log = pacer::log(&records)?;
+/// records.reverse();
+/// let backwards = pacer::log(&records)?;
+/// for bound in [Bound::Rows(3), Rule::Every { length: 60, start: 0 }, Bound::Rows(1)] {
+///     let query = Query { kind: Kind::MEAN, bound };
+///     let mut slots = [[0; pacer::SLOT_BYTES]; 2];
+///     let answer = pacer::query(query, &log, &mut slots[0]);
+///     assert_eq!(pacer::query(query, &backwards, &mut slots[1]), answer);
+///     assert_eq!(slots[0], slots[1]);
+/// }
+///
+/// // The index of a wrong record is that of the log as lent: the same record, with group 8.
+/// for (mut damaged, index) in [(log, 0), (backwards, 2)] {
+///     damaged[9 * index + 2] = 8;
+///     let mut slot = [0; pacer::SLOT_BYTES];
+///     let query = Query { kind: Kind::MEAN, bound: Bound::Rows(3) };
+///     let refusal = pacer::query(query, &damaged, &mut slot).unwrap_err();
+///     assert_eq!((refusal.question, refusal.index), (7, index));
+/// }
 /// # Ok::<(), pacer::Refusal>(())
 /// ```
 pub fn query(query: Query, log: &[u8], slot: &mut [u8]) -> Result<Reduction, Refusal> {

@@ -475,6 +475,50 @@ fn every_pair_of_places() {
     }
 }
 
+/// 128 records, each within the one before, backwards and by steps: segments, slots and answers are
+/// those of the log as it was.
+#[test]
+fn any_order() {
+    let records: Vec<Record> = (0..128).map(|i| record(7, i, 1000 - i, 7 * i)).collect();
+    let log = pacer::log(&records).unwrap();
+    let scenes = [Scene::new(0, 63), Scene::new(64, 900)];
+    let every = |length| Rule::Every { length, start: 5 };
+    // Each with the question that refuses it.
+    let rules = [
+        (Bound::Rows(64), None),
+        (Bound::Share(20), None),
+        (Bound::Rows(0), Some(10)),
+        (Rule::Scenes(&scenes), None),
+        (every(100), None),
+        (every(10), Some(20)),
+    ];
+    // An odd step comes by every record.
+    for step in [127, 37, 65] {
+        let shuffled: Vec<Record> = (0..128).map(|i| records[(i * step + 3) % 128]).collect();
+        let other = pacer::log(&shuffled).unwrap();
+        for kind in (0..=4).map(Kind) {
+            let mut lists = [[Segment::default(); SEGMENT_PLACES]; 2];
+            let [list, again] = &mut lists;
+            let found = pacer::segments(&log, kind, list);
+            assert_eq!(pacer::segments(&other, kind, again), found);
+            for (bound, refused) in rules {
+                let query = Query { kind, bound };
+                let mut slot = [0x55; SLOT_BYTES];
+                let mut again = [0xAA; SLOT_BYTES];
+                let answer = pacer::query(query, &log, &mut slot);
+                assert_eq!(pacer::query(query, &other, &mut again), answer);
+                assert_eq!(answer.err().map(|refusal| refusal.question), refused);
+                let expected = if refused.is_none() {
+                    slot
+                } else {
+                    [0xAA; SLOT_BYTES]
+                };
+                assert_eq!(again, expected, "{query:?}");
+            }
+        }
+    }
+}
+
 /// The call for logs on file: what it keeps, and where.
 #[test]
 fn logs_on_file() {

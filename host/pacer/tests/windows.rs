@@ -2,7 +2,7 @@
 
 mod cases;
 
-use cases::bytes;
+use cases::{bytes, frames};
 use pacer::c;
 use pacer::{Bound, Header, Kind, Query, Record, Refusal, Row, Rule, Scene, Walker};
 use pacer::{ROWS, SCENES, SLOT_BYTES};
@@ -59,16 +59,6 @@ fn rows(kind: Kind, rule: Rule, log: &[u8]) -> Result<Vec<Row>, Refusal> {
 fn question(kind: Kind, rule: Rule, log: &[u8]) -> (u8, usize) {
     let refusal = rows(kind, rule, log).unwrap_err();
     (refusal.question, refusal.index)
-}
-
-/// A list of frames in the file of cases.
-fn frames(word: &str) -> Vec<u16> {
-    if word == "-" {
-        return Vec::new();
-    }
-    word.split(',')
-        .map(|frame| frame.parse().unwrap())
-        .collect()
 }
 
 /// The bytes of a slot before a query.

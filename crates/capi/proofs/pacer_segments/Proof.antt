@@ -41,6 +41,7 @@ use denote.Triple.Walked.{says, Stays, stay-none, stay-none-slice, gave-slice, w
 use denote.Exit.{yes}
 use denote.Triple.Clauses.{ensured, lasts}
 use Rattle.model.specs.Calls.{segmentsCase, segmentsOutcome, filledList}
+use Rattle.model.specs.Demands.{SegmentsPromise}
 use Rattle.model.specs.declared.Segment.{Segment}
 use Rattle.model.specs.declared.SegmentsAnswer.{SegmentsAnswer}
 use Rattle.model.proofs.Segment as G
@@ -124,7 +125,9 @@ module _ {M : Type 1} (𝓤 : URA M) (H : Heap 𝓤) (A : Atoms 𝓤) (W : Given
 
   -- its answer and the list that it leaves
   abbrev Said : SegmentsAnswer → List Segment → Type 0
-  Said r zs = (segmentsCase r ≡ segmentsOutcome kind (now log) (length ys)) × (zs ≡ filledList kind (now log) ys)
+  Said r zs =
+      (segmentsCase r ≡ segmentsOutcome kind (now log) (length ys)) × (zs ≡ filledList kind (now log) ys)
+      × SegmentsPromise kind (now log) ys (segmentsCase r) zs
 
   abbrev IsAnswer : SegmentsAnswer → Val → Type 0
   IsAnswer r u = Is E.the-row r (u ∷ [])
@@ -155,7 +158,7 @@ module _ {M : Type 1} (𝓤 : URA M) (H : Heap 𝓤) (A : Atoms 𝓤) (W : Given
   exits r zs z w said turned l =
       qed W (‵ (K.the-row .own z (w ∷ [])) ∷ Tokens ∷ ‵ (finally R γ zs) ∷ ‵ OwnLog ∷ []) ∵
       suffices ! _ (ends-at 𝓤 H A call.ended stayed (call.clauses 𝓤 H A mem run) W (((κ₀, (κ₁, tt)), (q₀, (q₁, tt)), tt, a, vals), tt) w z (tt, (tt, (zs, tt))) (tt, (tt, (l, tt)))) $
-      says ! (turned ∙ ap segmentsFields (said .0), said .1) $
+      says ! (turned ∙ ap segmentsFields (said .0), said .1, (segmentsCase r, turned, said .2)) $
       move ! (1 ∷ []) $ frame ! $
       -- [what the answer owns; the last list; what the log owns]
       nothing ! $ move ! (2 ∷ 0 ∷ []) $ fjoin ! $ owned ! u8 (Is u8) (uint-makes 𝓤 H A W w8) kind _ (refl, kind-fits) $ fjoin ! $ move ! (2 ∷ 0 ∷ []) $ fjoin ! $ frame ! $ done !

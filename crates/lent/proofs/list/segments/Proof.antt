@@ -59,6 +59,7 @@ use Rattle.segments.proofs.find_in_log as find
 use Rattle.segments.proofs.find_in_log.Symbol as find-def
 use Rattle.segments.proofs.find_in_log.Symbol.{name as #segments·find-in-log}
 use Rattle.segments.proofs.find_in_log.Met as find-thm
+use Rattle.theory.proofs.Order.{segments-any-order}
 use Rattle.lent.proofs.Filling.{found, found-fits, found-fill}
 use Rattle.lent.proofs.list.fill as fill
 use Rattle.lent.proofs.list.fill.Symbol as fill-def
@@ -191,9 +192,10 @@ module _ {M : Type 1} (𝓤 : URA M) (H : Heap 𝓤) (A : Atoms 𝓤) (W : Given
   exits : (r : Found) (zs : List Segment) → Says r → Has r → Filled r zs → length zs ≡ length ys
       → ent 𝓤 (⋆ 𝓤 H A (Token κ₁ q₁ ∷ ‵ (finally R γ zs) ∷ ‵ (F.the-row .own r (fv r ∷ [])) ∷ Token κ₀ q₀ ∷ ‵ OwnLog ∷ [])) (Post (av r))
   exits r zs e has filled l =
+      let holds = filled ∙ found-fill kind (now log) (r .segments) ys has in
       qed W (Token κ₁ q₁ ∷ ‵ (finally R γ zs) ∷ ‵ (F.the-row .own r (fv r ∷ [])) ∷ Token κ₀ q₀ ∷ ‵ OwnLog ∷ []) ∵
       suffices ! _ (ends-at 𝓤 H A call.ended stayed (call.clauses 𝓤 H A mem run) W (((κ₀, (κ₁, tt)), (q₀, (q₁, tt)), tt, a, vals), tt) (av r) (r .answer) (tt, (tt, (zs, tt))) (tt, (tt, (l, tt)))) $
-      says ! (e, filled ∙ found-fill kind (now log) (r .segments) ys has) $
+      says ! (e, holds, segments-any-order kind (now log) ys (segmentsCase (r .answer)) zs e holds) $
       move ! (3 ∷ []) $ split ! $ move ! (1 ∷ []) $ leave ! $ join ! $ frame ! $
       -- [the last list; what the answer owns; what the log owns]
       nothing ! $ move ! (1 ∷ 0 ∷ []) $ fjoin ! $ owned ! u8 (Is u8) (uint-makes 𝓤 H A W w8) kind _ (refl, kind-fits) $ fjoin ! $ move ! (2 ∷ 0 ∷ []) $ fjoin ! $ frame ! $
