@@ -13,7 +13,7 @@ use Rattle.model.specs.Segments.{join, fuse, place, framesFrom, groupsFrom, seg
 use Rattle.model.specs.Split.{mostRows}
 use Rattle.model.specs.Slot.{slotLength}
 use Rattle.model.specs.Questions.{Outcome, refused, accepted, ask, askRoom, outcome, each, marked, kindKnown, boundKnown, groupKnown, spanQuestions, recordQuestions, twinQuestions, mostRecords, mostSegments, logQuestions, segmentsQuestions, ruleQuestion, ruledOrder, ruledQuestions}
-use Rattle.model.specs.Calls.{Counts, segmentOf, logSegments, segmentsOutcome, filledList, ruleOf, boundedQuery, ruledOutcome, boundOf, letterOutcome}
+use Rattle.model.specs.Calls.{Counts, segmentOf, logSegments, segmentsOutcome, filledList, ruleOf, boundedQuery, ruledOutcome, ruledSlot, boundOf, letterOutcome}
 use Rattle.model.specs.Fitting.{hits, due}
 use Rattle.model.specs.Demands.{AllPass, SameRecords, Shuffled, SameAnswer, SegmentsPromise, QueryPromise, RuledPromise, LetterPromise}
 use Rattle.model.specs.declared.Bound.the-variants.{Rows}
@@ -80,6 +80,11 @@ module _ (slot otherSlot : List ℕ) where
       let nine = refused-number says .0 in
       ⊎-elim (λ (e : n ≡ 10). omega arith) (λ (e : n ≡ 20). omega arith) is)
 
+  -- an index, which 10 and 20 do not have
+  pub with-an-index : SameAnswer (refused 10 1) slot (refused 10 1) otherSlot → ⊥
+  with-an-index =
+      ⊎-elim (λ (both, says, says-too, bytes). accepted≢refused (sym says)) (λ (n, is, says, says-too). omega (arith, refused-number says .1))
+
 -- other bytes, the last of the 768
 pub bytes-differ : (counts : Counts)
     → SameAnswer (accepted counts) (replicate 768 0) (accepted counts) (replicate 767 0 ++ (1 ∷ [])) → ⊥
@@ -102,6 +107,12 @@ other-says e =
     let nine = refused-number (sym says-too ∙ e) .0 in
     ⊎-elim (λ (ten : n ≡ 10). omega arith) (λ (twenty : n ≡ 20). omega arith) is)
     (any-order .query by-rows log other (replicate 768 0) (replicate 768 0) swapped refl refl (omega arith) (omega arith))
+
+-- slots of other lengths, with other bytes in them, hold the same after the two queries
+pub any-slots : SameAnswer (ruledOutcome by-rows log 768) (ruledSlot by-rows log (replicate 768 0))
+    (ruledOutcome by-rows other 770) (ruledSlot by-rows other (replicate 770 9))
+unfolding boundedQuery ruleOf ruleQuestion boundKnown ask kindKnown slotLength mostRows
+any-slots = any-order .query by-rows log other (replicate 768 0) (replicate 770 9) swapped refl refl (omega arith) (omega arith)
 
 module _ (after : List ℕ) where
   pub order-refused : RuledPromise by-rows log (replicate 768 0) (refused 9 1) after → ⊥

@@ -24,7 +24,7 @@ mod windows;
 
 use compare::{ByQuestion, Seen};
 use demand::Tried;
-use order::Shuffled;
+use order::{Met, Shuffled};
 use random::Random;
 use std::process::ExitCode;
 use std::sync::atomic::{AtomicU64, Ordering};
@@ -262,13 +262,13 @@ fn unreached(seen: &Seen) -> Vec<String> {
 
 /// What the logs of a part did not have in another order, and must have.
 fn unreached_in_order(part: Part, order: &Shuffled) -> Vec<String> {
+    let logs = [Met::Longest, Met::WrongLog];
     match part {
         Part::Random => [
-            order.missing_segments(),
             order.missing_by_bound(&[0, 1, 2, 3, 4]),
             order.missing_by_windows(),
-            order.missing_too_many(),
-            order.missing_logs(),
+            order.missing(&[Met::Segments, Met::TooMany]),
+            order.missing(&logs),
         ]
         .concat(),
         Part::Small => order.missing_by_bound(&[0, 1, 2, 3, 4]),
@@ -277,12 +277,12 @@ fn unreached_in_order(part: Part, order: &Shuffled) -> Vec<String> {
         Part::Tails => Vec::new(),
         Part::Edges => [
             order.missing_by_windows(),
-            order.missing_too_many(),
-            order.missing_logs(),
+            order.missing(&[Met::TooMany]),
+            order.missing(&logs),
         ]
         .concat(),
         Part::Frames => order.missing_by_windows(),
-        Part::Twins => [order.missing_segments(), order.missing_logs()].concat(),
+        Part::Twins => [order.missing(&[Met::Segments]), order.missing(&logs)].concat(),
     }
 }
 

@@ -6,153 +6,127 @@ use crate::random::Random;
 use crate::windows::Windows;
 use pacer::{c, RECORDS, RECORD_BYTES, SEGMENT_PLACES, SLOT_BYTES};
 
+/// What a call was that was held to another order.
+#[derive(Clone, Copy)]
+pub enum Met {
+    /// Accepted by the segment call, or by a query: by a bound, by beats, by scenes.
+    Segments,
+    ByBound,
+    ByBeats,
+    ByScenes,
+    /// Refused in every order: too few rows (10) or too many (20), for what was asked (2, 3, 18, 19),
+    /// or for the log (4 to 9 and 21).
+    TooFew,
+    TooMany,
+    AskedWrong,
+    WrongLog,
+    /// On a log of 128 records that passes its questions.
+    Longest,
+    /// At an end of the reduction, of a log that has more segments than runs: accepted with the
+    /// fewest rows, refused with one below them, with as many rows as segments, and with the shares
+    /// 0 and 1,000.
+    Fewest,
+    BelowFewest,
+    NothingMerged,
+    Share0,
+    Share1000,
+}
+
+/// The names of what was met, in its order.
+const NAMES: [&str; 14] = [
+    "accepted by the segment call",
+    "by a bound",
+    "by beats",
+    "by scenes",
+    "refused with 10",
+    "refused with 20",
+    "refused for what is asked",
+    "refused for the log",
+    "of 128 records",
+    "with a limit equal to the runs",
+    "one below them",
+    "with nothing merged",
+    "with the share 0",
+    "with the share 1000",
+];
+
 /// What was held to another order, and how often. A log in another order has other bytes: logs of
 /// one record, of none and of equal ones have one order alone, and are not counted.
 #[derive(Clone, Copy, Default)]
 pub struct Shuffled {
-    /// Accepted by the segment call, and by a query: by a bound, by beats, by scenes.
-    pub segments: u64,
-    pub by_bound: u64,
-    pub by_beats: u64,
-    pub by_scenes: u64,
-    /// Refused in every order: too few rows (10) and too many (20).
-    pub too_few: u64,
-    pub too_many: u64,
-    /// Refused for what was asked (2, 3, 18, 19), and for the log (4 to 9 and 21).
-    pub asked_wrong: u64,
-    pub wrong_log: u64,
-    /// Calls on logs of 128 records that pass their questions.
-    pub longest: u64,
+    met: [u64; NAMES.len()],
     /// Accepted queries by kind, by a bound and by windows.
-    pub bound_kinds: [u64; 5],
-    pub window_kinds: [u64; 5],
-    /// Both ends of the reduction, of logs that have more segments than runs: the fewest rows, one
-    /// below them, which is refused, as many rows as segments, and the shares 0 and 1,000.
-    pub fewest: u64,
-    pub below_fewest: u64,
-    pub nothing_merged: u64,
-    pub share_0: u64,
-    pub share_1000: u64,
+    bound_kinds: [u64; 5],
+    window_kinds: [u64; 5],
 }
 
 impl Shuffled {
     pub fn join(&mut self, other: &Shuffled) {
-        for kind in 0..self.bound_kinds.len() {
-            self.bound_kinds[kind] += other.bound_kinds[kind];
-            self.window_kinds[kind] += other.window_kinds[kind];
+        let pairs = [
+            (&mut self.met[..], &other.met[..]),
+            (&mut self.bound_kinds, &other.bound_kinds),
+            (&mut self.window_kinds, &other.window_kinds),
+        ];
+        for (one, two) in pairs {
+            for (a, b) in one.iter_mut().zip(two) {
+                *a += b;
+            }
         }
-        self.segments += other.segments;
-        self.by_bound += other.by_bound;
-        self.by_beats += other.by_beats;
-        self.by_scenes += other.by_scenes;
-        self.too_few += other.too_few;
-        self.too_many += other.too_many;
-        self.asked_wrong += other.asked_wrong;
-        self.wrong_log += other.wrong_log;
-        self.longest += other.longest;
-        self.fewest += other.fewest;
-        self.below_fewest += other.below_fewest;
-        self.nothing_merged += other.nothing_merged;
-        self.share_0 += other.share_0;
-        self.share_1000 += other.share_1000;
     }
 
-    /// What no query by a bound had, of what they must have, with accepted ones of these kinds.
+    fn add(&mut self, what: Met, is_so: bool) {
+        self.met[what as usize] += u64::from(is_so);
+    }
+
+    /// What was never met, of what has to be.
+    pub fn missing(&self, owed: &[Met]) -> Vec<String> {
+        owed.iter()
+            .filter(|what| self.met[**what as usize] == 0)
+            .map(|what| format!("a log in another order {}", NAMES[*what as usize]))
+            .collect()
+    }
+
+    /// What no query by a bound met, of what they must meet, with accepted ones of these kinds.
     pub fn missing_by_bound(&self, kinds: &[u8]) -> Vec<String> {
-        let counts = [
-            ("accepted by a bound", self.by_bound),
-            ("refused with 10", self.too_few),
-            ("with a limit equal to the runs", self.fewest),
-            ("with a limit one below the runs", self.below_fewest),
-            ("with nothing merged", self.nothing_merged),
-            ("with the share 0", self.share_0),
-            ("with the share 1000", self.share_1000),
-        ];
-        let mut missing = zeros(&counts);
+        let mut missing = self.missing(&[
+            Met::ByBound,
+            Met::TooFew,
+            Met::Fewest,
+            Met::BelowFewest,
+            Met::NothingMerged,
+            Met::Share0,
+            Met::Share1000,
+        ]);
         missing.extend(kinds_missing("by a bound", &self.bound_kinds, kinds));
         missing
     }
 
-    /// What no query by windows had, of what they must have, with accepted ones of all kinds.
+    /// What no query by windows met, of what they must meet, with accepted ones of all kinds.
     pub fn missing_by_windows(&self) -> Vec<String> {
-        let counts = [
-            ("accepted by beats", self.by_beats),
-            ("accepted by scenes", self.by_scenes),
-        ];
-        let mut missing = zeros(&counts);
         let kinds: Vec<u8> = (0..=reference::MOST_KIND).collect();
+        let mut missing = self.missing(&[Met::ByBeats, Met::ByScenes]);
         missing.extend(kinds_missing("by windows", &self.window_kinds, &kinds));
         missing
     }
 
-    /// Which logs there were not: the longest, and those that fail a question of their own.
-    pub fn missing_logs(&self) -> Vec<String> {
-        zeros(&[
-            ("of 128 records", self.longest),
-            ("with a question of its own failed", self.wrong_log),
-        ])
-    }
-
-    /// Whether there were never more than 64 rows by windows.
-    pub fn missing_too_many(&self) -> Vec<String> {
-        zeros(&[("refused with 20", self.too_many)])
-    }
-
-    /// Whether the segment call accepted no log.
-    pub fn missing_segments(&self) -> Vec<String> {
-        zeros(&[("accepted by the segment call", self.segments)])
-    }
-
-    /// Prints what there was.
+    /// Prints what was met.
     pub fn print(&self) {
-        let calls = [
-            ("segments", self.segments),
-            ("by a bound", self.by_bound),
-            ("by beats", self.by_beats),
-            ("by scenes", self.by_scenes),
-            ("refused with 10", self.too_few),
-            ("refused with 20", self.too_many),
-            ("refused for what is asked", self.asked_wrong),
-            ("refused for the log", self.wrong_log),
-            ("128 records", self.longest),
-        ];
-        println!("  in another order: {}", without_zeros(&calls));
-        if self.by_bound > 0 {
-            let ends = [
-                ("limit equal to the runs", self.fewest),
-                ("one below", self.below_fewest),
-                ("nothing merged", self.nothing_merged),
-                ("share 0", self.share_0),
-                ("share 1000", self.share_1000),
-            ];
-            println!(
-                "    by a bound: {}; by kind {:?}",
-                without_zeros(&ends),
-                self.bound_kinds
-            );
-        }
-        if self.by_beats + self.by_scenes > 0 {
-            println!("    by windows: by kind {:?}", self.window_kinds);
+        let met: Vec<String> = NAMES
+            .iter()
+            .zip(self.met)
+            .filter(|(_, count)| *count > 0)
+            .map(|(what, count)| format!("{what} {count}"))
+            .collect();
+        println!("  in another order: {}", met.join(", "));
+        for (what, kinds) in [
+            ("a bound", self.bound_kinds),
+            ("windows", self.window_kinds),
+        ] {
+            if kinds != [0; 5] {
+                println!("    by {what}: by kind {kinds:?}");
+            }
         }
     }
-}
-
-fn without_zeros(counts: &[(&str, u64)]) -> String {
-    let met: Vec<String> = counts
-        .iter()
-        .filter(|(_, count)| *count > 0)
-        .map(|(what, count)| format!("{what} {count}"))
-        .collect();
-    met.join(", ")
-}
-
-/// What was never met.
-fn zeros(counts: &[(&str, u64)]) -> Vec<String> {
-    counts
-        .iter()
-        .filter(|(_, count)| *count == 0)
-        .map(|(what, _)| format!("a log in another order {what}"))
-        .collect()
 }
 
 fn kinds_missing(what: &str, counts: &[u64; 5], kinds: &[u8]) -> Vec<String> {
@@ -274,47 +248,44 @@ fn count(
     kind: u8,
     ask: Ask,
     log: &[u8],
-    sizes: (usize, usize),
+    (segments, runs): (usize, usize),
     answer: &c::QueryAnswer,
     counts: &mut Shuffled,
 ) {
+    let accepted = answer.question == 0;
     match answer.question {
         0 => {}
-        10 => counts.too_few += 1,
-        20 => counts.too_many += 1,
-        4..=9 | 21 => counts.wrong_log += 1,
-        _ => counts.asked_wrong += 1,
+        10 => counts.add(Met::TooFew, true),
+        20 => counts.add(Met::TooMany, true),
+        4..=9 | 21 => return counts.add(Met::WrongLog, true),
+        _ => return counts.add(Met::AskedWrong, true),
     }
-    if !matches!(answer.question, 0 | 10 | 20) {
-        return;
-    }
-    counts.longest += u64::from(log.len() == RECORDS * RECORD_BYTES);
-    let accepted = u64::from(answer.question == 0);
+    counts.add(Met::Longest, log.len() == RECORDS * RECORD_BYTES);
     match ask {
         Ask::Bound(rule, bound) => {
-            counts.by_bound += accepted;
-            counts.bound_kinds[usize::from(kind)] += accepted;
-            let (segments, runs) = sizes;
+            counts.add(Met::ByBound, accepted);
+            counts.bound_kinds[usize::from(kind)] += u64::from(accepted);
             if segments == runs {
                 return;
             }
             let bound = usize::from(bound);
             if rule == c::ROWS {
-                counts.fewest += u64::from(bound == runs) * accepted;
-                counts.below_fewest += u64::from(bound + 1 == runs && answer.question == 10);
+                counts.add(Met::Fewest, accepted && bound == runs);
+                counts.add(Met::BelowFewest, answer.question == 10 && bound + 1 == runs);
                 let all = answer.rows == segments && (bound == segments || bound == pacer::ROWS);
-                counts.nothing_merged += u64::from(all) * accepted;
+                counts.add(Met::NothingMerged, accepted && all);
             } else {
-                counts.share_0 += u64::from(bound == 0) * accepted;
-                counts.share_1000 += u64::from(bound == 1000) * accepted;
+                counts.add(Met::Share0, accepted && bound == 0);
+                counts.add(Met::Share1000, accepted && bound == 1000);
             }
         }
         Ask::Windows(windows) => {
-            match windows {
-                Windows::Beats(..) => counts.by_beats += accepted,
-                Windows::Scenes(..) => counts.by_scenes += accepted,
-            }
-            counts.window_kinds[usize::from(kind)] += accepted;
+            let what = match windows {
+                Windows::Beats(..) => Met::ByBeats,
+                Windows::Scenes(..) => Met::ByScenes,
+            };
+            counts.add(what, accepted);
+            counts.window_kinds[usize::from(kind)] += u64::from(accepted);
         }
     }
 }
@@ -412,14 +383,14 @@ pub fn segments(
             same_places("list of segments", &found, &after)
         };
         hold().map_err(|why| context(name, &other, why))?;
-        match answer.question {
-            0 => {
-                counts.segments += 1;
-                counts.longest += u64::from(log.len() == RECORDS * RECORD_BYTES);
-            }
-            2 => counts.asked_wrong += 1,
-            _ => counts.wrong_log += 1,
-        }
+        let what = match answer.question {
+            0 => Met::Segments,
+            2 => Met::AskedWrong,
+            _ => Met::WrongLog,
+        };
+        counts.add(what, true);
+        let longest = log.len() == RECORDS * RECORD_BYTES;
+        counts.add(Met::Longest, answer.question == 0 && longest);
     }
     Ok(())
 }
