@@ -26,6 +26,7 @@ use Rattle.model.specs.declared.Bound.{Bound}
 use Rattle.model.specs.declared.Bound.the-variants.{Rows, Share}
 use Rattle.model.specs.declared.Query.{Query}
 use Rattle.model.proofs.Page.{horizon, short-page}
+use Rattle.model.proofs.Tail.{walked, tail-walked}
 
 record Case : Type 0 where
   kind : ℕ
@@ -382,9 +383,9 @@ RecordHolds c =
 
 -- Every row of these two tables holds.
 pub byte-cases : All SlotHolds slot-cases × All RecordHolds record-cases
-unfolding listFrom numberAt bytesOf slotLength rowBytes rowsBytes usedBytes slotBytes rowPlace slotMark slotKind slotCount slotError slotRow slotRows ask outcome lent each marked askRoom kindKnown groupKnown spanQuestions mostRows follows inOrder rowKnown rowQuestions zeros tailZero errorKnown headerMarked slotQuestions readOutcome readRows recordLength recordBytes writeQuestions writeOutcome writtenBuffer
+unfolding walked listFrom numberAt bytesOf slotLength rowBytes rowsBytes usedBytes slotBytes rowPlace slotMark slotKind slotCount slotError slotRow slotRows ask outcome lent each marked askRoom kindKnown groupKnown spanQuestions mostRows follows inOrder rowKnown rowQuestions errorKnown headerMarked slotQuestions readOutcome readRows recordLength recordBytes writeQuestions writeOutcome writtenBuffer
 byte-cases = (
-  ((refl, refl, refl), ((refl, refl, refl), ((refl, refl, refl), ((refl, refl, refl), ((refl, refl, refl), ((refl, refl, refl), ((refl, refl, refl), tt))))))),
+  ((refl, rw tail-walked, rw tail-walked), ((refl, rw tail-walked, rw tail-walked), ((refl, refl, refl), ((refl, refl, refl), ((refl, rw tail-walked, rw tail-walked), ((refl, rw tail-walked, rw tail-walked), ((refl, refl, refl), tt))))))),
   ((refl, refl), ((refl, refl), ((refl, refl), ((refl, refl), ((refl, refl), ((refl, refl), tt)))))),
 )
 

@@ -1,5 +1,6 @@
 -- The paper's worked cases, shown of the definitions.
 pub mod Page
+pub mod Tail
 pub mod Cases
 pub mod WindowCases
 pub mod TwinCases

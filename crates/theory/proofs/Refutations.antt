@@ -18,7 +18,7 @@ use Rattle.model.specs.Blocks.{segmentAt, squared}
 use Rattle.model.specs.Split.{Reduced, mostRows, reduced}
 use Rattle.model.specs.Slot.{slotLength, byBound, byWindows, rowBytes, rowsBytes, usedBytes, slotBytes, rowPlace, slotMark, slotKind, slotCount, slotError, slotRow, slotRows, valueIn}
 use Rattle.model.specs.Questions.{refused, accepted, ask, askRoom, outcome, each, marked, kindKnown, boundKnown, groupKnown, mostRecords, spanQuestions, recordQuestions, twinQuestions, logQuestions, orderQuestions}
-use Rattle.model.specs.Questions.{lent, follows, inOrder, rowKnown, rowQuestions, zeros, tailZero, errorKnown, headerMarked, slotQuestions}
+use Rattle.model.specs.Questions.{lent, follows, inOrder, rowKnown, rowQuestions, errorKnown, headerMarked, slotQuestions}
 use Rattle.model.specs.Calls.{Counts, logSegments, answerOf, countsOf, queryOutcome, cutsWeighed, queryWeighed, boundOf, letterWeighed, Header, readOutcome, readRows}
 use Rattle.model.specs.Guarantee.{Choices, LeastOfFewest, WithinShare, Exceeds, BestOfLimit, BestOfShare, BestRows, NoRows}
 use Rattle.model.specs.Fitting.{hits, due, FitsFor, frameCost, overFrames, squaredError, rowLists}
@@ -26,6 +26,7 @@ use Rattle.model.specs.Demands.{AllPass, Reads, BestSlot, QueryPromise, LetterP
 use Rattle.model.specs.declared.Bound.{Bound}
 use Rattle.model.specs.declared.Bound.the-variants.{Rows, Share}
 use Rattle.model.proofs.Page.{horizon, value-none}
+use Rattle.model.proofs.Tail.{walked, tail-walked}
 use Rattle.model.proofs.Cases.{span, log-G, segments-G, rows-G, bytes, query, worked-cases}
 use Rattle.theory.proofs.Refusals.{outcome-accepted, accepted≢refused, accepted-inj}
 use Rattle.theory.proofs.Guarantee.{one-least}
@@ -315,12 +316,12 @@ readings : Reads (slotBytes byBound 0 11280 rows-G) byBound 0 11280 rows-G
     × Reads (slotBytes byBound 0 40087 runs-G) byBound 0 40087 runs-G
     × Reads (slotBytes byBound 0 67 five-G) byBound 0 67 five-G
     × (readOutcome (replicate 768 0) ≡ refused 11 0)
-unfolding listFrom numberAt bytesOf slotLength rowBytes rowsBytes usedBytes slotBytes rowPlace slotMark slotKind slotCount slotError slotRow slotRows ask outcome lent each marked askRoom kindKnown groupKnown mostRows follows inOrder rowKnown rowQuestions zeros tailZero errorKnown headerMarked slotQuestions readOutcome readRows
+unfolding walked listFrom numberAt bytesOf slotLength rowBytes rowsBytes usedBytes slotBytes rowPlace slotMark slotKind slotCount slotError slotRow slotRows ask outcome lent each marked askRoom kindKnown groupKnown mostRows follows inOrder rowKnown rowQuestions errorKnown headerMarked slotQuestions readOutcome readRows
 readings = (
-  record { header = refl; body = refl },
-  record { header = refl; body = refl },
-  record { header = refl; body = refl },
-  record { header = refl; body = refl },
+  record { header = rw tail-walked; body = rw tail-walked },
+  record { header = rw tail-walked; body = rw tail-walked },
+  record { header = rw tail-walked; body = rw tail-walked },
+  record { header = rw tail-walked; body = rw tail-walked },
   refl,
 )
 

@@ -13,13 +13,14 @@ use Rattle.model.specs.Spans.{Span}
 use Rattle.model.specs.Log.{recordLength, recordBytes}
 use Rattle.model.specs.Split.{mostRows}
 use Rattle.model.specs.Slot.{slotLength, byBound, byWindows, rowBytes, rowsBytes, usedBytes, slotBytes, rowPlace, slotMark, slotKind, slotCount, slotError, slotRow, slotRows}
-use Rattle.model.specs.Questions.{Question, Outcome, refused, accepted, ask, askRoom, outcome, each, marked, kindKnown, groupKnown, spanQuestions, mostSegments, follows, inOrder, rowKnown, rowQuestions, zeros, tailZero, errorKnown, headerMarked}
+use Rattle.model.specs.Questions.{Question, Outcome, refused, accepted, ask, askRoom, outcome, each, marked, kindKnown, groupKnown, spanQuestions, mostSegments, follows, inOrder, rowKnown, rowQuestions, errorKnown, headerMarked}
 use Rattle.model.specs.Questions.{writeQuestions, segmentsQuestions, orderQuestions, logQuestions, queryQuestions, ruleQuestion, ruledOrder, ruledQuestions, slotQuestions, lookupQuestions}
 use Rattle.model.specs.Calls.{Counts, Header, writeOutcome, writtenBuffer, segmentsOutcome, filledList, queryOutcome, querySlot, ruledOutcome, ruledSlot, beatQuery, boundOf, letterQuestions, byLetterQuestions, letterOutcome, letterSlot, readOutcome, readRows, readListQuestions, readListOutcome, readList, stepOutcome, stepNext, lookupOutcome}
 use Rattle.model.specs.Demands.{FirstNo, Asks, Storable}
 use Rattle.model.specs.declared.Bound.the-variants.{Rows}
 use Rattle.model.specs.declared.Segment.{Segment}
 use Rattle.model.specs.declared.Row.{Row}
+use Rattle.model.proofs.Tail.{walked, tail-walked}
 use Rattle.model.proofs.Cases.{span, log-G, rows-G, bytes, query}
 use Rattle.theory.proofs.Refusals.{accepted≢refused, all-outcome, all-lent, outcome-accepted, first-no-outcome}
 use Rattle.theory.proofs.Demands.{demand1, demand2, storable}
@@ -93,8 +94,8 @@ first-noes : (outcome (writeQuestions wrong-record 9) (tt {0}) ≡ refused 7 0)
     × (outcome (slotQuestions (slotBytes 0x43 0 0 [])) (tt {0}) ≡ refused 11 0)
     × (outcome (slotQuestions (slotBytes byWindows 0 11280 rows-G)) (tt {0}) ≡ refused 17 0)
     × (outcome (ruledQuestions (beatQuery 0 0 1) [] 768) (tt {0}) ≡ refused 18 0)
-unfolding outcome ask askRoom writeQuestions spanQuestions groupKnown recordLength segmentsQuestions mostSegments kindKnown logQuestions queryQuestions orderQuestions slotLength byLetterQuestions boundOf letterQuestions slotQuestions lookupQuestions readListQuestions marked slotBytes usedBytes rowsBytes rowBytes bytesOf slotMark slotKind slotCount slotError slotRow rowPlace numberAt each rowQuestions rowKnown inOrder follows headerMarked tailZero errorKnown zeros mostRows ruledQuestions ruledOrder ruleQuestion beatQuery
-first-noes = (refl, refl, refl, refl, refl, refl, refl, refl, refl, refl)
+unfolding walked outcome ask askRoom writeQuestions spanQuestions groupKnown recordLength segmentsQuestions mostSegments kindKnown logQuestions queryQuestions orderQuestions slotLength byLetterQuestions boundOf letterQuestions slotQuestions lookupQuestions readListQuestions marked slotBytes usedBytes rowsBytes rowBytes bytesOf slotMark slotKind slotCount slotError slotRow rowPlace numberAt each rowQuestions rowKnown inOrder follows headerMarked errorKnown mostRows ruledQuestions ruledOrder ruleQuestion beatQuery
+first-noes = (refl, refl, refl, refl, refl, rw tail-walked, refl, refl, rw tail-walked, refl)
 
 -- accepted in spite of a 'no' (acceptance), refused by a later 'no' (refusal), refused and written all the same (refusal)
 pub accepted-in-spite : Asks (writeQuestions wrong-record 9) (accepted (tt {0})) nines nines → ⊥

@@ -15,12 +15,13 @@ use Rattle.model.specs.Blocks.{block, empty, totalsOf, add, totals, rowValue}
 use Rattle.model.specs.Split.{mostRows}
 use Rattle.model.specs.Slot.{slotLength, byBound, rowBytes, rowsBytes, usedBytes, slotBytes, rowPlace, slotMark, slotKind, slotCount, slotError, slotRow, slotRows, valueIn}
 use Rattle.model.specs.Questions.{accepted, ask, askRoom, lent, each, marked, kindKnown, groupKnown}
-use Rattle.model.specs.Questions.{follows, inOrder, rowKnown, rowQuestions, zeros, tailZero, errorKnown, headerMarked, slotQuestions}
+use Rattle.model.specs.Questions.{follows, inOrder, rowKnown, rowQuestions, errorKnown, headerMarked, slotQuestions}
 use Rattle.model.specs.Calls.{Counts, readRows}
 use Rattle.model.specs.Guarantee.{Choices, LeastOfFewest, BestOfLimit, BestOfShare}
 use Rattle.model.specs.Fitting.{FitsFor}
 use Rattle.model.specs.Demands.{NeverShort, QueryPromise, whole}
 use Rattle.model.specs.declared.Bound.the-variants.{Rows}
+use Rattle.model.proofs.Tail.{walked, tail-walked}
 use Rattle.model.proofs.Cases.{span, log-G, segments-G3, four-G3, runs-G3, bytes, query, worked-cases}
 use Rattle.theory.proofs.Tests.{some-inj}
 use Rattle.theory.proofs.Guarantee.{one-least}
@@ -119,8 +120,8 @@ rows-fall-short never =
 
 -- a slot of these rows (neverShort)
 short-read : readRows (slotBytes byBound greatestKind 24087 short-G3) ≡ short-G3
-unfolding listFrom numberAt bytesOf slotLength rowBytes rowsBytes usedBytes slotBytes rowPlace slotMark slotKind slotCount slotError slotRow slotRows ask lent each marked askRoom kindKnown groupKnown mostRows follows inOrder rowKnown rowQuestions zeros tailZero errorKnown headerMarked slotQuestions readRows
-short-read = refl
+unfolding walked listFrom numberAt bytesOf slotLength rowBytes rowsBytes usedBytes slotBytes rowPlace slotMark slotKind slotCount slotError slotRow slotRows ask lent each marked askRoom kindKnown groupKnown mostRows follows inOrder rowKnown rowQuestions errorKnown headerMarked slotQuestions readRows
+short-read = rw tail-walked
 
 pub falls-short : (counts : Counts)
     → QueryPromise (query greatestKind (Rows 3)) (bytes log-G) (replicate 768 0) (accepted counts)
