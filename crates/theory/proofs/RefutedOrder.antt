@@ -1,19 +1,22 @@
 -- Wrong answers that the statements about any order reject, each by the clause that its comment names; two logs of which they speak; and
 -- the same statements with a condition left out, which are false. Assumes nothing.
 use Prim.Native.Nat.{ℕ}
+use mathlib.Core.Bool.{true}
 use mathlib.Core.List.{List, [], _∷_, _++_, List·Permᴰ·swap}
 use mathlib.Core.Logic.{⊎-elim}
 use mathlib.Core.Path.{_≡_, refl, sym, ap, _∙_}
 use native.Mathlib.Omega.{arith}
 use lib.ListN.{length, getD, replicate}
-use Rattle.model.specs.Common.{listFrom, every, joined, numberAt, bytesOf}
+use Rattle.model.specs.Common.{listFrom, every, joined, isSome, numberAt, bytesOf}
 use Rattle.model.specs.Spans.{Span, groupCount, frameCount, meets, adjacent}
 use Rattle.model.specs.Log.{recordLength, recordBytes, recordAt, recordCount, recordPart, twins, isFirst, records, meeting, sum, aggregate, aggregated, value}
 use Rattle.model.specs.Segments.{join, fuse, place, framesFrom, groupsFrom, segmentsOf}
-use Rattle.model.specs.Split.{mostRows}
-use Rattle.model.specs.Slot.{slotLength}
-use Rattle.model.specs.Questions.{Outcome, refused, accepted, ask, askRoom, outcome, each, marked, kindKnown, boundKnown, groupKnown, spanQuestions, recordQuestions, twinQuestions, mostRecords, mostSegments, logQuestions, segmentsQuestions, ruleQuestion, ruledOrder, ruledQuestions}
-use Rattle.model.specs.Calls.{Counts, segmentOf, logSegments, segmentsOutcome, filledList, ruleOf, boundedQuery, ruledOutcome, ruledSlot, boundOf, letterOutcome}
+use Rattle.model.specs.Blocks.{segmentAt, gap, runsTo}
+use Rattle.model.specs.Split.{mostRows, chosen, runs, countFor}
+use Rattle.model.specs.Windows.{boundIn}
+use Rattle.model.specs.Slot.{slotLength, usedBytes, slotBytes}
+use Rattle.model.specs.Questions.{Outcome, refused, accepted, ask, askRoom, outcome, each, marked, kindKnown, boundKnown, groupKnown, spanQuestions, recordQuestions, twinQuestions, mostRecords, mostSegments, logQuestions, segmentsQuestions, enoughRows, ruleQuestion, rowsQuestion, ruledOrder, ruledQuestions}
+use Rattle.model.specs.Calls.{Counts, segmentOf, logSegments, segmentsOutcome, filledList, ruleOf, boundedQuery, queryOutcome, querySlot, ruledOutcome, ruledSlot, boundOf, letterOutcome, letterSlot}
 use Rattle.model.specs.Fitting.{hits, due}
 use Rattle.model.specs.Demands.{AllPass, SameRecords, Shuffled, SameAnswer, SegmentsPromise, QueryPromise, RuledPromise, LetterPromise}
 use Rattle.model.specs.declared.Bound.the-variants.{Rows}
@@ -22,8 +25,8 @@ use Rattle.model.specs.declared.Segment.{Segment}
 use Rattle.model.proofs.Page.{horizon, short-page}
 use Rattle.model.proofs.Cases.{span, bytes, query}
 use Rattle.model.proofs.TwinCases.{a, b, bad}
-use Rattle.theory.proofs.Refusals.{accepted≢refused, accepted-inj, all-cons, outcome-accepted, all-outcome, all-lent}
-use Rattle.theory.proofs.Ruled.{bound-back, bound-outcome}
+use Rattle.theory.proofs.Refusals.{accepted≢refused, accepted-inj, all-nil, all-cons, all-append, outcome-accepted, all-outcome, all-lent}
+use Rattle.theory.proofs.Ruled.{bound-back, bound-outcome, bound-slot}
 use Rattle.theory.proofs.RefutedCalls.{refused-number}
 use Rattle.theory.proofs.Order.{any-order}
 use Rattle.theory.proofs.Demands.{demand2}
@@ -114,19 +117,25 @@ pub any-slots : SameAnswer (ruledOutcome by-rows log 768) (ruledSlot by-rows log
 unfolding boundedQuery ruleOf ruleQuestion boundKnown ask kindKnown slotLength mostRows
 any-slots = any-order .query by-rows log other (replicate 768 0) (replicate 770 9) swapped refl refl (omega arith) (omega arith)
 
+-- it is the query by a bound, and by a letter
+by-bound : (ruledOutcome by-rows other 768 ≡ queryOutcome (query 0 (Rows 3)) other 768)
+    × (ruledSlot by-rows other (replicate 768 0) ≡ querySlot (query 0 (Rows 3)) other (replicate 768 0))
+unfolding boundedQuery ruleOf
+by-bound = (
+  bound-outcome by-rows (Rows 3) (bound-back (Rows 3)) other 768,
+  bound-slot by-rows (Rows 3) (bound-back (Rows 3)) other (replicate 768 0),
+)
+
 module _ (after : List ℕ) where
   pub order-refused : RuledPromise by-rows log (replicate 768 0) (refused 9 1) after → ⊥
   order-refused p = other-says (sym (p .anyOrder other swapped .0))
 
   pub order-refused-by-bound : QueryPromise (query 0 (Rows 3)) log (replicate 768 0) (refused 9 1) after → ⊥
-  unfolding boundedQuery ruleOf
-  order-refused-by-bound p =
-      other-says (bound-outcome by-rows (Rows 3) (bound-back (Rows 3)) other 768 ∙ sym (p .anyOrder other swapped .0))
+  order-refused-by-bound p = other-says (by-bound .0 ∙ sym (p .anyOrder other swapped .0))
 
   pub order-refused-by-letter : LetterPromise 0 0x52 3 log (replicate 768 0) (refused 9 1) after → ⊥
-  unfolding boundedQuery ruleOf letterOutcome boundOf
-  order-refused-by-letter p =
-      other-says (bound-outcome by-rows (Rows 3) (bound-back (Rows 3)) other 768 ∙ sym (p .anyOrder other swapped .0))
+  unfolding letterOutcome boundOf
+  order-refused-by-letter p = other-says (by-bound .0 ∙ sym (p .anyOrder other swapped .0))
 
 abbrev places : List Segment
 places = replicate 255 (record { group = 9; first = 9; last = 9; value = 9 })
@@ -150,6 +159,32 @@ unfolding filledList segmentOf
 segments-untouched says p =
     let left = p .anyOrder other swapped .1 ∙ all-lent (segmentsQuestions 0 other 255) _ places segments-asked in
     omega (arith, ap (λ (l : List Segment). (getD l 0 (record { group = 9; first = 9; last = 9; value = 9 })) .value) (rw other-segments at left))
+
+-- success over an untouched slot
+enough : enoughRows (query 0 (Rows 3)) other ≡ true
+unfolding enoughRows logSegments countFor chosen runs runsTo gap segmentAt adjacent isSome
+enough = rw other-segments
+
+other-slot : getD (ruledSlot by-rows other (replicate 768 0)) 0 0 ≡ 0x50
+unfolding ruledSlot ruledQuestions ruledOrder rowsQuestion boundedQuery ruleOf ruleQuestion boundKnown ask askRoom kindKnown slotLength mostRows slotBytes usedBytes boundIn
+other-slot =
+    ap (λ (l : List ℕ). getD l 0 0)
+    (all-lent (ruledQuestions by-rows other 768) _ (replicate 768 0)
+    (all-cons _ _ refl (all-cons _ _ refl (all-cons _ _ refl (all-append _ _ (swapped .otherPasses) (all-cons _ _ enough all-nil))))))
+
+untouched : replicate 768 0 ≡ ruledSlot by-rows other (replicate 768 0) → ⊥
+untouched e = omega (arith, ap (λ (l : List ℕ). getD l 0 0) e ∙ other-slot)
+
+module _ (says : Outcome Counts) where
+  pub order-untouched : RuledPromise by-rows log (replicate 768 0) says (replicate 768 0) → ⊥
+  order-untouched p = untouched (p .anyOrder other swapped .1)
+
+  pub order-untouched-by-bound : QueryPromise (query 0 (Rows 3)) log (replicate 768 0) says (replicate 768 0) → ⊥
+  order-untouched-by-bound p = untouched (p .anyOrder other swapped .1 ∙ sym (by-bound .1))
+
+  pub order-untouched-by-letter : LetterPromise 0 0x52 3 log (replicate 768 0) says (replicate 768 0) → ⊥
+  unfolding letterSlot boundOf
+  order-untouched-by-letter p = untouched (p .anyOrder other swapped .1 ∙ sym (by-bound .1))
 
 -- ---- statements that are false
 
