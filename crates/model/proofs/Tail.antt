@@ -15,11 +15,13 @@ walked bytes zero = true
 walked [] (suc count) = true
 walked (b ∷ bytes) (suc count) = eqb b 0 && walked bytes count
 
+-- behind the first byte
 zeros-shifted : (b : ℕ) (bytes : List ℕ) (i count : ℕ) → zeros (b ∷ bytes) (suc i) count ≡ zeros bytes i count
 unfolding zeros
 zeros-shifted b bytes i zero = refl
 zeros-shifted b bytes i (suc count) = rw (zeros-shifted b bytes (suc i) count)
 
+-- where there is no byte
 zeros-none : (i count : ℕ) → zeros [] i count ≡ walked [] count
 unfolding zeros walked
 zeros-none i zero = refl
