@@ -20,8 +20,7 @@ use Rattle.model.specs.Slot.{slotLength, byBound, rowBytes, rowsBytes, u
 use Rattle.model.specs.Questions.{ask, Outcome, refused, accepted, outcome, each, marked, askRoom, kindKnown, boundKnown, groupKnown, spanQuestions, recordQuestions, twinQuestions, mostRecords, logQuestions, orderQuestions, enoughRows, queryQuestions}
 use Rattle.model.specs.Questions.{lent, writeQuestions, follows, inOrder, rowKnown, rowQuestions, zeros, tailZero, errorKnown, headerMarked, slotQuestions}
 use Rattle.model.specs.Calls.{Counts, countsOf, logSegments, answerOf, queryOutcome, querySlot, Header, readOutcome, readRows, writeOutcome, writtenBuffer}
-use Rattle.model.specs.Fitting.{FitsFor}
-use Rattle.model.specs.Demands.{whole}
+use Rattle.model.specs.Fitting.{FitsFor, whole}
 use Rattle.model.specs.declared.Bound.{Bound}
 use Rattle.model.specs.declared.Bound.the-variants.{Rows, Share}
 use Rattle.model.specs.declared.Query.{Query}

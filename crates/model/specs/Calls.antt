@@ -48,6 +48,9 @@ recordSpan r = record { group = r .group; first = r .first; last = r .last; valu
 unfoldable pub segmentOf : Span ℕ → Segment
 segmentOf s = record { group = s .group; first = s .first; last = s .last; value = s .value }
 
+unfoldable pub segmentSpan : Segment → Span ℕ
+segmentSpan s = record { group = s .group; first = s .first; last = s .last; value = s .value }
+
 unfoldable pub rowOfSpan : Span ℕ → Row
 rowOfSpan s = record { group = s .group; first = s .first; last = s .last; value = s .value }
 

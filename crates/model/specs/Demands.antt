@@ -6,7 +6,7 @@ use mathlib.Core.List.{List, [], _∷_, _++_, map, List·Memᴰ, List·Permᴰ}
 use mathlib.Core.Logic.{_⊎_, _↔_}
 use mathlib.Core.Option.{Option, none, some}
 use mathlib.Core.Path.{_≡_}
-use lib.IntN.{ℤ, pos}
+use lib.IntN.{ℤ}
 use lib.ListN.{length, getD, take}
 use Rattle.model.specs.Common.{sumOf, listFrom, joined}
 use Rattle.model.specs.Spans.{Span, groupCount, frameCount, spanLength, meets, adjacent}
@@ -15,7 +15,7 @@ use Rattle.model.specs.Blocks.{segmentAt, gap, totals, rowValue, errorWi
 use Rattle.model.specs.Split.{Reduced, errorOf, gapBelow, runs, rowsOf, mostRows}
 use Rattle.model.specs.Reductions.{IsReduction, Merges, IsAnswer, reductionError}
 use Rattle.model.specs.Windows.{boundIn}
-use Rattle.model.specs.Slot.{slotLength, byBound, byWindows, slotBytes, valueIn}
+use Rattle.model.specs.Slot.{slotLength, byBound, byWindows, slotBytes, slotMark, valueIn}
 use Rattle.model.specs.Questions.{Question, Outcome, refused, accepted, kindKnown, boundKnown, rowKnown, follows}
 use Rattle.model.specs.Questions.{fileQuestions, logQuestions, withoutTwinsQuestions, orderQuestions, writeQuestions, segmentsQuestions, queryQuestions, slotQuestions, lookupQuestions, mostSegments}
 use Rattle.model.specs.Questions.{ruleQuestion, withBound, windowRows, ruledOrder, ruledQuestions}
@@ -24,8 +24,10 @@ use Rattle.model.specs.Calls.{ruledOutcome, ruledSlot, beatQuery}
 use Rattle.model.specs.Calls.{cutsWeighed, queryWeighed, boundOf, byLetterQuestions, letterOutcome, letterSlot, letterWeighed}
 use Rattle.model.specs.LowerHalves.{lowerValue, lowerError, lowerErrorOf, lowerAnswer, lowerOutcome}
 use Rattle.model.specs.Guarantee.{Choices, LeastOfFewest, BestRows, NoRows}
-use Rattle.model.specs.Fitting.{hits, due, AtMost, FitsFor, rowLists}
+use Rattle.model.specs.Fitting.{hits, due, AtMost, FitsFor, whole, rowLists}
+use Rattle.model.specs.Check.{checkQuestions, checkOutcome}
 use Rattle.model.specs.declared.Bound.{Bound}
+use Rattle.model.specs.declared.Bound.the-variants as bound
 use Rattle.model.specs.declared.Query.{Query}
 use Rattle.model.specs.declared.Rule.{Rule}
 use Rattle.model.specs.declared.Rule.the-variants.{Rows, Share, Every, Scenes}
@@ -78,6 +80,7 @@ pub record Demand1 : Type 0 where
       → Asks (slotQuestions slot) (stepOutcome slot number) number (stepNext slot number)
   pub lookup : (slot : List ℕ) (group frame : ℕ)
       → Asks (lookupQuestions slot group) (lookupOutcome slot group frame) slot slot
+  pub check : (log slot : List ℕ) → Asks (checkQuestions log slot) (checkOutcome log slot) slot slot
 
 -- Demand 2.
 
@@ -325,10 +328,6 @@ pub record HalvesUp : Type 0 where
 
 -- Demand 3.
 
--- rows as a list of rows that hold whole numbers
-unfoldable pub whole : Span ℕ → Span ℤ
-whole r = record { group = r .group; first = r .first; last = r .last; value = pos (r .value) }
-
 -- the lists of rows that fit a log, by the values of a kind
 abbrev pub listsFor : ℕ → List ℕ → Choices (List (Span ℤ))
 listsFor kind log = rowLists kind (value kind (records log))
@@ -367,6 +366,51 @@ pub record Demand3 : Type 0 where
   pub oneLeast : (kind : ℕ) (log : List ℕ)
       → (L : ℕ) × LeastOfFewest (listsFor kind log) L × ((M : ℕ) → LeastOfFewest (listsFor kind log) M → M ≡ L)
 
+-- A slot against its log.
+
+-- the log passes its questions, the slot is read as one by a bound, and its rows are a list that fits the log for its kind, with
+-- its error as their squared error
+pub record Agrees (log slot : List ℕ) : Type 0 where
+  pub kind : ℕ
+  pub error : ℕ
+  pub rows : List (Span ℕ)
+  pub logPasses : AllPass (logQuestions log)
+  pub reads : Reads slot byBound kind error rows
+  pub fits : (listsFor kind log) .fits (map whole rows)
+  pub hasError : (listsFor kind log) .error (map whole rows) ≡ error
+
+-- the slot is no better than the tool's own: a query of its kind for as many rows as it has is accepted, with no more rows and no
+-- greater an error
+pub record NoBetter (log slot : List ℕ) (room : ℕ) : Type 0 where
+  pub kind : ℕ
+  pub error : ℕ
+  pub rows : List (Span ℕ)
+  pub reads : Reads slot byBound kind error rows
+  pub own : Counts
+  pub answers : queryOutcome (record { kind = kind; bound = bound.Rows (length rows) }) log room ≡ accepted own
+  pub asManyRows : own .rows ≤ length rows
+  pub asGreatAnError : own .error ≤ error
+
+pub record SlotAgainstLog : Type 0 where
+  -- a slot is accepted exactly if it agrees with its log
+  pub exactly : (log slot : List ℕ) → Bytes slot → (checkOutcome log slot ≡ accepted tt) ↔ Agrees log slot
+  -- whatever rows fit, cut as they may be, pass in a slot with their squared error
+  pub whateverFits : (log rest : List ℕ) (kind error : ℕ) (rows : List (Span ℕ)) → AllPass (logQuestions log)
+      → Storable byBound kind error rows → (listsFor kind log) .fits (map whole rows)
+      → (listsFor kind log) .error (map whole rows) ≡ error
+      → checkOutcome log (slotBytes byBound kind error rows ++ rest) ≡ accepted tt
+  -- so does every slot that the tool writes by a bound, with the log that it was written for
+  pub written : (q : Query) (log slot : List ℕ) (counts : Counts) → queryOutcome q log (length slot) ≡ accepted counts
+      → checkOutcome log (querySlot q log slot) ≡ accepted tt
+  -- no slot that passes is better than the tool's own
+  pub noBetter : (log slot : List ℕ) → Bytes slot → checkOutcome log slot ≡ accepted tt → (room : ℕ) → slotLength ≤ room
+      → NoBetter log slot room
+  -- a slot by windows is refused as 11, once the log has passed
+  pub notByWindows : (log slot : List ℕ) → slotLength ≤ length slot → AllPass (logQuestions log) → slotMark slot ≡ byWindows
+      → checkOutcome log slot ≡ refused 11 0
+  -- any order of the log gives the same answer
+  pub anyOrder : (log other slot : List ℕ) → Shuffled log other → checkOutcome log slot ≡ checkOutcome other slot
+
 -- What a call promises beyond the equations for its answer and its slot.
 
 -- a call for logs on file that answers so and leaves this buffer: where it is accepted, the bytes that it says it wrote hold each
@@ -385,13 +429,22 @@ pub record SegmentsPromise (kind : ℕ) (log : List ℕ) (list : List Segment) (
   pub anyOrder : ForAnyOrder log (λ other. segmentsOutcome kind other (length list)) (λ other. filledList kind other list) says after
 
 -- a query that answers so and leaves this slot: its number of cuts weighed; best rows where it is accepted, and for kind 3 none
--- that falls short; 'too few rows' where no rows do, and there alone; the same for any order of the records
+-- that falls short; 'too few rows' where no rows do, and there alone; the same for any order of the records; and a slot that passes
+-- the check with the log
 pub record QueryPromise (q : Query) (log slot : List ℕ) (says : Outcome Counts) (after : List ℕ) : Type 0 where
   pub weighed : cutsWeighed says ≡ queryWeighed q log (length slot)
   pub best : (counts : Counts) → says ≡ accepted counts → BestSlot q log after
   pub neverShort : (counts : Counts) → says ≡ accepted counts → NeverShort q log (readRows after)
   pub tooFew : slotLength ≤ length slot → AllPass (orderQuestions q log) → SaysTooFew q log says
   pub anyOrder : ForAnyOrder log (λ other. queryOutcome q other (length slot)) (λ other. querySlot q other slot) says after
+  pub passes : (counts : Counts) → says ≡ accepted counts → checkOutcome log after ≡ accepted tt
+
+-- a check of a slot that answers so: it is accepted exactly if the slot agrees with its log, and then the slot is no better than the
+-- tool's own; the same for any order of the records
+pub record CheckPromise (log slot : List ℕ) (says : Outcome (Unit {0})) : Type 0 where
+  pub exactly : (says ≡ accepted tt) ↔ Agrees log slot
+  pub noBetter : says ≡ accepted tt → (room : ℕ) → slotLength ≤ room → NoBetter log slot room
+  pub anyOrder : (other : List ℕ) → Shuffled log other → says ≡ checkOutcome other slot
 
 -- the slot of a query by windows is read to the span aggregation of the log, with error 0, and no cut was weighed
 pub record SpanSlot (q : RuledQuery) (log slot : List ℕ) (counts : Counts) : Type 0 where

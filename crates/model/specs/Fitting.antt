@@ -60,6 +60,10 @@ pub record FitsFor (kind : ℕ) (val : ℕ → ℕ → Option ℕ) (rows : List 
   pub covers : Fits val rows
   pub nowhereBelow : kind ≡ greatestKind → NowhereBelow val rows
 
+-- a slot's row as one that holds a whole number
+unfoldable pub whole : Span ℕ → Span ℤ
+whole r = record { group = r .group; first = r .first; last = r .last; value = pos (r .value) }
+
 -- the lists of rows among which a query of this kind has the best
 abbrev pub rowLists : ℕ → (ℕ → ℕ → Option ℕ) → Choices (List (Span ℤ))
 rowLists kind val = record { fits = FitsFor kind val; size = length; error = squaredError val }

@@ -15,4 +15,5 @@ pub mod Room
 pub mod Arrays
 pub mod Guarantee
 pub mod Fitting
+pub mod Check
 pub mod Demands

@@ -210,14 +210,16 @@ errorKnown slot = cond (eqb (slotMark slot) byWindows) (eqb (slotError slot) 0) 
 unfoldable pub headerMarked : List ℕ → Bool
 headerMarked slot = marked slot 0 0x50 byBound || marked slot 0 0x50 byWindows
 
--- 1 and 11 to 17
-unfoldable pub slotQuestions : List ℕ → List Question
-slotQuestions slot =
-    askRoom slotLength (length slot)
-    ∷ ask 11 0 (headerMarked slot)
-    ∷ ask 12 0 (kindKnown (slotKind slot))
+-- 12 to 17
+abbrev pub contentQuestions : List ℕ → List Question
+contentQuestions slot =
+    ask 12 0 (kindKnown (slotKind slot))
     ∷ ask 13 0 (leb (slotCount slot) mostRows)
     ∷ (each (rowQuestions slot) 0 (slotCount slot) ++ (ask 17 0 (tailZero slot && errorKnown slot) ∷ []))
+
+-- 1 and 11 to 17
+unfoldable pub slotQuestions : List ℕ → List Question
+slotQuestions slot = askRoom slotLength (length slot) ∷ ask 11 0 (headerMarked slot) ∷ contentQuestions slot
 
 -- the slot's, then 7
 unfoldable pub lookupQuestions : List ℕ → ℕ → List Question

@@ -11,8 +11,7 @@ use Rattle.model.specs.Questions.{refused, accepted}
 use Rattle.model.specs.Calls.{Header, readCase}
 use Rattle.model.specs.Arrays.{rowsIn}
 use Rattle.model.specs.Guarantee.{BestOfLimit}
-use Rattle.model.specs.Fitting.{rowLists}
-use Rattle.model.specs.Demands.{whole}
+use Rattle.model.specs.Fitting.{whole, rowLists}
 use Rattle.model.specs.declared.Bound.the-variants.{Rows}
 use Rattle.model.specs.declared.Query.{Query}
 use Rattle.model.specs.declared.Reading.{Reading}

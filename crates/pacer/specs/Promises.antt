@@ -7,7 +7,8 @@ use Rattle.model.specs.Questions.{accepted}
 use Rattle.model.specs.Calls.{Counts, readCase}
 use Rattle.model.specs.Arrays.{rowsIn}
 use Rattle.model.specs.Guarantee.{BestRows}
-use Rattle.model.specs.Demands.{whole, listsFor, NeverShort}
+use Rattle.model.specs.Fitting.{whole}
+use Rattle.model.specs.Demands.{listsFor, NeverShort}
 use Rattle.model.specs.declared.Query.{Query}
 use Rattle.model.specs.declared.Reading.{Reading}
 

@@ -7,7 +7,6 @@ use lib.Dec.{eqb}
 use Rattle.model.specs.Spans.{Span, adjacent}
 use Rattle.model.specs.Segments.{fuse}
 use Rattle.model.specs.Arrays.{segmentsIn, segmentArrays}
-use Rattle.model.specs.declared.Segment.{Segment}
 use Rattle.model.specs.declared.Segments.{Segments}
 
 -- the first span is adjacent to the second and equal to it in value
@@ -17,9 +16,6 @@ joins s t = adjacent s t && eqb (s .value) (t .value)
 -- spans joined wherever neighbours are adjacent and equal in value
 unfoldable pub joined : List (Span ℕ) → List (Span ℕ)
 joined spans = foldr (fuse eqb) [] spans
-
-unfoldable pub segmentSpan : Segment → Span ℕ
-segmentSpan s = record { group = s .group; first = s .first; last = s .last; value = s .value }
 
 -- segments in four arrays
 abbrev pub arraysOf : List ℕ → List ℕ → List ℕ → List ℕ → ℕ → Segments

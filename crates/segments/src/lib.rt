@@ -19,10 +19,10 @@ ghost use lib.ListN.{length};
 ghost use Rattle.model.specs.Spans.{frameCount};
 ghost use Rattle.model.specs.Segments.{framesFrom, segments};
 ghost use Rattle.model.specs.Questions.{refused, lent, segmentsQuestions, mostRecords};
-ghost use Rattle.model.specs.Calls.{segmentsCase, segmentsOutcome, logSegments};
+ghost use Rattle.model.specs.Calls.{segmentSpan, segmentsCase, segmentsOutcome, logSegments};
 ghost use Rattle.model.specs.Arrays.{spansIn, segmentArrays};
 ghost use Rattle.tally.specs.Tally.{ownsIn, Survey, ownValue};
-ghost use Rattle.segments.specs.Steps.{joins, segmentSpan, arraysOf, Made, behind};
+ghost use Rattle.segments.specs.Steps.{joins, arraysOf, Made, behind};
 
 // The segment call's answer, and the segments beside it: none in a refusal.
 pub struct Found {

@@ -79,7 +79,7 @@ fn row_known(row: Row) -> bool
 }
 
 // The place of a frame in the order of all groups' frames: 131,072 places for each group, of which the first 65,536 are frames.
-fn place_of(group: u8, frame: u16) -> u32
+pub fn place_of(group: u8, frame: u16) -> u32
     ensures { λ r. ⌜ r ≡ placeOf group frame ⌝ }
 {
     0x2_0000 * (group as u32) + (frame as u32)

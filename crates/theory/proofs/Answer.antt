@@ -18,8 +18,8 @@ use Rattle.model.specs.Split.{cutsOf, rowsOf, errorOf, gapBelow, runs, leastOf,
 use Rattle.model.specs.Reductions.{IsReduction, reductionError}
 use Rattle.model.specs.Slot.{valueIn}
 use Rattle.model.specs.Guarantee.{LeastOfFewest, BestRows, NoRows}
-use Rattle.model.specs.Fitting.{due, squaredError, FitsFor, rowLists}
-use Rattle.model.specs.Demands.{Cut, Reduces, whole}
+use Rattle.model.specs.Fitting.{due, squaredError, FitsFor, whole, rowLists}
+use Rattle.model.specs.Demands.{Cut, Reduces}
 use Rattle.model.specs.declared.Bound.{Bound}
 use Rattle.theory.proofs.Tests.{cases, is-none}
 use Rattle.theory.proofs.Frames.{value-inside}
@@ -148,7 +148,7 @@ module _ (kind : ℕ) (rs : List (Span ℕ)) where
 -- ---- rows of kind 3
 
 -- the number of a frame's row, as a whole number
-whole-value : (rows : List (Span ℕ)) (g f : ℕ) (z : ℤ) → valueIn (map whole rows) g f ≡ some z
+pub whole-value : (rows : List (Span ℕ)) (g f : ℕ) (z : ℤ) → valueIn (map whole rows) g f ≡ some z
     → (r : ℕ) × (valueIn rows g f ≡ some r) × (z ≡ pos r)
 unfolding valueIn whole holds meets
 whole-value [] g f z e = absurd (let x : _≡_ {A = ℕ} 0 1 = cc in omega arith)

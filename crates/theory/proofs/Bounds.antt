@@ -198,7 +198,7 @@ pub mul-le : {a b c d : ℕ} → a ≤ b → c ≤ d → a * c ≤ b * d
 mul-le {a} {b} {c} {d} p q = le-trans (mul-le-mul-left a q) (mul-le-mul-right d p)
 
 -- the squared difference of two values in range is at most the square of the greatest value
-squared-le : (v r : ℕ) → v ≤ mostValue → r ≤ mostValue → squared v (pos r) ≤ mostValue * mostValue
+pub squared-le : (v r : ℕ) → v ≤ mostValue → r ≤ mostValue → squared v (pos r) ≤ mostValue * mostValue
 squared-le v r small low =
     let apart = squared-pos v r in
     let most = mul-le small small in

@@ -7,8 +7,9 @@ use mathlib.Core.Option.{Option, none, some}
 use mathlib.Core.Path.{_≡_, refl, sym, ap, _∙_, subst}
 use native.Mathlib.Nat.{le-refl}
 use native.Mathlib.Omega.{arith}
-use lib.ListN.{length, drop}
-use borrow.Author.Tests.{leb-true}
+use lib.ListN.{length, drop, length-map}
+use borrow.Author.Tests.{leb-true, le-leb}
+use lib.Dec.{leb}
 use Rattle.model.specs.Spans.{Span}
 use Rattle.model.specs.Log.{records, greatestKind, value}
 use Rattle.model.specs.Segments.{segments}
@@ -16,22 +17,24 @@ use Rattle.model.specs.Blocks.{segmentAt}
 use Rattle.model.specs.Split.{mostRows, countFor, Reduced, errorOf, gapBelow}
 use Rattle.model.specs.Reductions.{IsReduction, reductionError}
 use Rattle.model.specs.Windows.{boundIn}
-use Rattle.model.specs.Slot.{slotLength, byBound, byWindows, slotBytes}
+use Rattle.model.specs.Slot.{slotLength, byBound, byWindows, slotBytes, slotKind, slotCount}
 use Rattle.model.specs.Questions.{withBound, windowRows, ruleQuestion, ruledOrder}
-use Rattle.model.specs.Questions.{Question, Outcome, accepted, ask, outcome, lent, kindKnown, boundKnown, mostValue, fileQuestions, orderQuestions, queryQuestions, enoughRows}
-use Rattle.model.specs.Calls.{Counts, logSegments, answerOf, countsOf, queryOutcome, querySlot, readRows}
+use Rattle.model.specs.Questions.{Question, Outcome, accepted, ask, outcome, lent, kindKnown, boundKnown, mostValue, askRoom, fileQuestions, orderQuestions, queryQuestions, enoughRows, slotQuestions}
+use Rattle.model.specs.Calls.{Counts, Header, logSegments, answerOf, countsOf, queryOutcome, querySlot, readOutcome, readRows}
 use Rattle.model.specs.Calls.{ruledAnswer, ruledMark, ruledOutcome, ruledSlot}
 use Rattle.model.specs.Calls.{cutsWeighed, queryWeighed, boundOf, letterQuestions, letterOutcome, letterSlot, letterWeighed}
 use Rattle.model.specs.LowerHalves.{lowerReducedTo, lowerAnswer}
 use Rattle.model.specs.Guarantee.{Choices, BestRows}
-use Rattle.model.specs.Fitting.{FitsFor}
-use Rattle.model.specs.Demands.{AllPass, Demand1, Demand2, Demand3, HalvesUp, CutBy, Cut, LowerCut, Reduces, Storable, Reads, whole, listsFor, BestSlot, NeverShort}
+use Rattle.model.specs.Fitting.{FitsFor, whole}
+use Rattle.model.specs.Demands.{AllPass, Demand1, Demand2, Demand3, HalvesUp, CutBy, Cut, LowerCut, Reduces, Storable, Reads, listsFor, BestSlot, NeverShort}
 use Rattle.model.specs.Demands.{SpanAggregation, SpanSlot, Shuffled, QueryPromise, RuledPromise, LetterPromise}
+use Rattle.model.specs.Demands.{Bytes, Agrees, NoBetter, SlotAgainstLog, CheckPromise}
+use Rattle.model.specs.Check.{checkOutcome}
 use Rattle.model.specs.declared.Bound.{Bound}
 use Rattle.model.specs.declared.Bound.the-variants.{Rows, Share}
 use Rattle.model.specs.declared.Query.{Query}
 use Rattle.model.specs.declared.RuledQuery.{RuledQuery}
-use Rattle.theory.proofs.Refusals.{all-head, all-tail, all-lent, lent-same, outcome-accepted, accepted-query, too-few}
+use Rattle.theory.proofs.Refusals.{all-nil, all-cons, all-head, all-tail, all-append, all-outcome, all-lent, lent-same, outcome-accepted, accepted-query, too-few}
 use Rattle.theory.proofs.Refusals as refusals
 use Rattle.theory.proofs.Asking.{file-passed}
 use Rattle.theory.proofs.Tests.{cases, is-some}
@@ -47,6 +50,7 @@ use Rattle.theory.proofs.Stored.{InRange, rows-known, rows-sorted}
 use Rattle.theory.proofs.Halves.{at-half-of, same-elsewhere, same-error, lower-in-range, same-errors, same-reduction, risen-rows, answers-are, same-outcome}
 use Rattle.theory.proofs.Guarantee.{limitOf}
 use Rattle.theory.proofs.Answer.{cutsTo, answer-reduces, best-rows, count-le, too-few-rows, only-least, never-short}
+use Rattle.theory.proofs.Check.{accepted-agrees, agrees-accepted, whatever-fits, not-by-windows, check-any-order}
 use Rattle.theory.proofs.Empty.{nothing-fits, empty-log}
 use Rattle.theory.proofs.Windows.{aggregation, only, window-rows-known, window-rows-sorted, frame-by-frame}
 use Rattle.theory.proofs.Order.{query-any-order, ruled-any-order}
@@ -90,6 +94,14 @@ answered q log enough =
       reduces = reduces;
       count = size;
     }
+
+-- it is best
+answer-best : (q : Query) (log : List ℕ) → enoughRows q log ≡ true
+    → BestRows (listsFor (q .kind) log) (q .bound) ((answerOf q log) .error) (map whole ((answerOf q log) .rows))
+unfolding logSegments
+answer-best q log enough =
+    let a = answered q log enough in
+    rw (a .cut .error, a .cut .rows) (best-rows (q .kind) (records log) (q .bound) (a .cuts) (a .reduces))
 
 is-reduction : (kind : ℕ) (bound : Bound) (segs : List (Span ℕ)) (cuts : List ℕ) → Reduces kind bound segs cuts
     → IsReduction (gapBelow segs) (length segs) cuts
@@ -176,7 +188,6 @@ module _ (q : Query) (log slot : List ℕ) (counts : Counts) (ok : queryOutcome 
       rw slot-written (round-trip byBound (q .kind) ((answerOf q log) .error) ((answerOf q log) .rows) (drop slotLength slot) storable)
 
   pub best : BestSlot q log (querySlot q log slot)
-  unfolding logSegments
   best =
       record {
         error = (answerOf q log) .error;
@@ -184,7 +195,7 @@ module _ (q : Query) (log slot : List ℕ) (counts : Counts) (ok : queryOutcome 
         reads = reads-back;
         answerError = refl;
         answerRows = refl;
-        best = rw (a .cut .error, a .cut .rows) (best-rows (q .kind) (records log) (q .bound) (a .cuts) (a .reduces));
+        best = answer-best q log (accepted-query q log (length slot) counts ok .2);
       }
 
 -- ---- what the slot of an accepted query by windows holds
@@ -283,6 +294,71 @@ demand3 =
       oneLeast = λ kind log. only-least kind (records log);
     }
 
+-- ---- a slot against its log
+
+-- what is best has its error
+best-error : {A : Type 0} (choices : Choices A) (bound : Bound) (error : ℕ) (a : A) → BestRows choices bound error a → choices .error a ≡ error
+best-error choices (Rows c) error a b = b .hasError
+best-error choices (Share p) error a b = b .hasError
+
+-- every slot that a query by a bound writes passes with its log
+written-passes : (q : Query) (log slot : List ℕ) (counts : Counts) → queryOutcome q log (length slot) ≡ accepted counts
+    → checkOutcome log (querySlot q log slot) ≡ accepted tt
+unfolding orderQuestions
+written-passes q log slot counts ok =
+    let b = best q log slot counts ok in
+    let lists = listsFor (q .kind) log in
+    agrees-accepted log (querySlot q log slot)
+    (record {
+      kind = q .kind;
+      error = b .error;
+      rows = b .rows;
+      logPasses = all-tail _ _ (all-tail _ _ (accepted-query q log (length slot) counts ok .1));
+      reads = b .reads;
+      fits = fitting lists (q .bound) (b .error) (map whole (b .rows)) (b .best);
+      hasError = best-error lists (q .bound) (b .error) (map whole (b .rows)) (b .best);
+    })
+
+-- the tool's own answer for as many rows is at least as good as a slot that agrees with its log
+no-better : (log slot : List ℕ) → Agrees log slot → (room : ℕ) → slotLength ≤ room → NoBetter log slot room
+unfolding queryOutcome queryQuestions orderQuestions readOutcome slotQuestions enoughRows askRoom ask countsOf boundKnown
+no-better log slot found room long =
+    let q : Query = record { kind = found .kind; bound = Rows (length (found .rows)) } in
+    let (read, header) = outcome-accepted (slotQuestions slot) _ _ (found .reads .header) in
+    let count : length (found .rows) ≡ slotCount slot = ap (λ (h : Header). h .rows) header in
+    let kind : found .kind ≡ slotKind slot = ap (λ (h : Header). h .kind) header in
+    let few : leb (length (found .rows)) mostRows ≡ true = rw count (all-head _ _ (all-tail _ _ (all-tail _ _ (all-tail _ _ read)))) in
+    let known : kindKnown (found .kind) ≡ true = rw kind (all-head _ _ (all-tail _ _ (all-tail _ _ read))) in
+    let order : AllPass (orderQuestions q log) = all-cons _ _ known (all-cons _ _ few (found .logPasses)) in
+    let enough : enoughRows q log ≡ true =
+    cases (enoughRows q log) (λ t. t)
+    (λ t. absurd (too-few-rows (found .kind) (records log) (q .bound) .0 t (map whole (found .rows)) (found .fits) (omega (arith, length-map (found .rows) whole)))) in
+    let answer = answer-best q log enough in
+    record {
+      kind = found .kind;
+      error = found .error;
+      rows = found .rows;
+      reads = found .reads;
+      own = countsOf (answerOf q log);
+      answers =
+          all-outcome (queryQuestions q log room) _
+          (all-cons _ _ (le-leb slotLength room long) (all-append (orderQuestions q log) _ order (all-cons _ _ enough all-nil)));
+      asManyRows = omega (arith, answer .count, length-map ((answerOf q log) .rows) whole);
+      asGreatAnError =
+          omega (arith, answer .least (map whole (found .rows)) (found .fits) (omega (arith, length-map (found .rows) whole)), found .hasError);
+    }
+
+pub slot-against-log : SlotAgainstLog
+slot-against-log =
+    record {
+      exactly = λ log slot small. (accepted-agrees log slot small, agrees-accepted log slot);
+      whateverFits = whatever-fits;
+      written = written-passes;
+      noBetter = λ log slot small e. no-better log slot (accepted-agrees log slot small e);
+      notByWindows = not-by-windows;
+      anyOrder = check-any-order;
+    }
+
 -- ---- what the calls promise beyond their equations
 
 -- the cuts weighed by a call that is asked these questions and would give these counts
@@ -303,6 +379,17 @@ query-promise q log slot says after answers holds =
       neverShort = λ counts e. rw holds (slot-never-short q log _ (best q log slot counts (sym answers ∙ e)));
       tooFew = rw answers (demand3 .tooFew q log slot);
       anyOrder = query-any-order q log slot says after answers holds;
+      passes = λ counts e. rw holds (written-passes q log slot counts (sym answers ∙ e));
+    }
+
+-- a call that answers a check so keeps its promise
+pub check-promise : (log slot : List ℕ) → Bytes slot → (says : Outcome (Unit {0})) → says ≡ checkOutcome log slot
+    → CheckPromise log slot says
+check-promise log slot small says answers =
+    record {
+      exactly = rw answers (slot-against-log .exactly log slot small);
+      noBetter = λ e. slot-against-log .noBetter log slot small (sym answers ∙ e);
+      anyOrder = λ other both. answers ∙ check-any-order log other slot both;
     }
 
 -- and the same of a query by a rule

@@ -22,6 +22,7 @@ pub mod Labels
 pub mod Cutting
 pub mod Bounds
 pub mod Stored
+pub mod InOrder
 pub mod Windows
 pub mod Ruled
 pub mod Twins
@@ -29,6 +30,7 @@ pub mod Permuted
 pub mod Order
 pub mod Guarantee
 pub mod Answer
+pub mod Check
 pub mod Halves
 pub mod Empty
 pub mod Demands

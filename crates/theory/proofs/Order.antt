@@ -111,7 +111,7 @@ module _ (kind : ℕ) {rs ss : List (Span ℕ)} (same : List·Permᴰ rs ss) whe
   stretch-order : (g a b : ℕ) → aggregated kind (meeting rs g a b) ≡ aggregated kind (meeting ss g a b)
   stretch-order g a b = aggregated-order kind (meeting-order g a b same)
 
-  value-order : value kind rs ≡ value kind ss
+  pub value-order : value kind rs ≡ value kind ss
   unfolding value
   value-order i g f = cond (ltb g groupCount && ltb f frameCount) (stretch-order g f f i) none
 

@@ -16,6 +16,7 @@ use Rattle.model.specs.Questions.{Question, Outcome, refused, accepted, ask, as
 use Rattle.model.specs.Questions.{ruledQuestions, orderQuestions, writeQuestions, withoutTwinsQuestions, segmentsQuestions, queryQuestions, slotQuestions}
 use Rattle.model.specs.Calls.{Counts, writeOutcome, writtenBuffer, withoutTwinsOutcome, withoutTwinsBuffer, segmentsOutcome, filledList, queryOutcome, querySlot, answerOf, countsOf, readOutcome, readListQuestions, readListOutcome, readList, stepOutcome, stepNext, lookupOutcome}
 use Rattle.model.specs.Calls.{ruledOutcome, ruledSlot, boundOf, byLetterQuestions, letterOutcome, letterSlot}
+use Rattle.model.specs.Check.{checkOutcome}
 use Rattle.model.specs.Demands.{AllPass, FirstNo, Asks, Demand1}
 use Rattle.model.specs.declared.Bound.{Bound}
 use Rattle.model.specs.declared.Query.{Query}
@@ -238,7 +239,7 @@ letter-asks kind letter x log slot = by (boundOf letter x) refl
 
 -- the first demand
 pub demand1 : Demand1
-unfolding writeOutcome writtenBuffer withoutTwinsOutcome withoutTwinsBuffer segmentsOutcome filledList queryOutcome querySlot ruledOutcome ruledSlot readOutcome readListOutcome readList stepOutcome stepNext lookupOutcome
+unfolding writeOutcome writtenBuffer withoutTwinsOutcome withoutTwinsBuffer segmentsOutcome filledList queryOutcome querySlot ruledOutcome ruledSlot readOutcome readListOutcome readList stepOutcome stepNext lookupOutcome checkOutcome
 demand1 =
     record {
       write = λ r buffer. asks _ _ _ _ (λ n i. refused-lent (writeQuestions r (length buffer)) _ n i _ _);
@@ -251,6 +252,7 @@ demand1 =
       readList = λ slot list. asks _ _ _ _ (λ n i. refused-lent (readListQuestions slot (length list)) _ n i _ _);
       step = λ slot number. asks _ _ _ _ (λ n i. refused-lent (slotQuestions slot) _ n i _ _);
       lookup = λ slot group frame. asks _ _ _ _ (λ n i e. refl);
+      check = λ log slot. asks _ _ _ _ (λ n i e. refl);
     }
 
 module _ (q : Query) (log : List ℕ) (room : ℕ) where

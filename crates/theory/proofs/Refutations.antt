@@ -21,8 +21,8 @@ use Rattle.model.specs.Questions.{refused, accepted, ask, askRoom, outcome, eac
 use Rattle.model.specs.Questions.{lent, follows, inOrder, rowKnown, rowQuestions, errorKnown, headerMarked, slotQuestions}
 use Rattle.model.specs.Calls.{Counts, logSegments, answerOf, countsOf, queryOutcome, cutsWeighed, queryWeighed, boundOf, letterWeighed, Header, readOutcome, readRows}
 use Rattle.model.specs.Guarantee.{Choices, LeastOfFewest, WithinShare, Exceeds, BestOfLimit, BestOfShare, BestRows, NoRows}
-use Rattle.model.specs.Fitting.{hits, due, FitsFor, frameCost, overFrames, squaredError, rowLists}
-use Rattle.model.specs.Demands.{AllPass, Reads, BestSlot, QueryPromise, LetterPromise, whole, SaysTooFew}
+use Rattle.model.specs.Fitting.{hits, due, FitsFor, frameCost, overFrames, squaredError, whole, rowLists}
+use Rattle.model.specs.Demands.{AllPass, Reads, BestSlot, QueryPromise, LetterPromise, SaysTooFew}
 use Rattle.model.specs.declared.Bound.{Bound}
 use Rattle.model.specs.declared.Bound.the-variants.{Rows, Share}
 use Rattle.model.proofs.Page.{horizon, value-none}

@@ -18,8 +18,8 @@ use Rattle.model.specs.Questions.{accepted, ask, askRoom, lent, each, marked, k
 use Rattle.model.specs.Questions.{follows, inOrder, rowKnown, rowQuestions, errorKnown, headerMarked, slotQuestions}
 use Rattle.model.specs.Calls.{Counts, readRows}
 use Rattle.model.specs.Guarantee.{Choices, LeastOfFewest, BestOfLimit, BestOfShare}
-use Rattle.model.specs.Fitting.{FitsFor}
-use Rattle.model.specs.Demands.{NeverShort, QueryPromise, whole}
+use Rattle.model.specs.Fitting.{FitsFor, whole}
+use Rattle.model.specs.Demands.{NeverShort, QueryPromise}
 use Rattle.model.specs.declared.Bound.the-variants.{Rows}
 use Rattle.model.proofs.Tail.{walked, tail-walked}
 use Rattle.model.proofs.Cases.{span, log-G, segments-G3, four-G3, runs-G3, bytes, query, worked-cases}

@@ -9,7 +9,8 @@ use Rattle.model.specs.Segments.{framesFrom}
 use Rattle.model.specs.Arrays.{segmentsIn, segmentArrays}
 use Rattle.model.specs.declared.Segments.{Segments}
 use Rattle.tally.specs.Tally.{ownsIn, loadsAt, ownValue}
-use Rattle.segments.specs.Steps.{joined, segmentSpan, arraysOf}
+use Rattle.model.specs.Calls.{segmentSpan}
+use Rattle.segments.specs.Steps.{joined, arraysOf}
 use Rattle.tally.specs.declared.Own.{Own}
 use Rattle.segments.proofs.Stretches.{stretch-none, stretch-one}
 use Rattle.segments.proofs.add_stretch.Statement.{statement}

@@ -9,7 +9,8 @@ use lib.Dec.{lit<}
 use native.Mathlib.Omega.{arith}
 use Rattle.model.specs.Arrays.{spanIn, segmentsIn}
 use Rattle.model.specs.declared.Segments.{Segments}
-use Rattle.segments.specs.Steps.{segmentSpan, arraysOf}
+use Rattle.model.specs.Calls.{segmentSpan}
+use Rattle.segments.specs.Steps.{arraysOf}
 use Rattle.segments.proofs.Joining.{joinsLast}
 use Rattle.segments.proofs.Storing.{made-le, joinsLast-in, joinsLast-none-in, widened, free, stored}
 use Rattle.segments.proofs.extend.Statement.{statement}

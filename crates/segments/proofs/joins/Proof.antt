@@ -3,7 +3,8 @@ use borrow.Author.Needs.{needs}
 use Prim.Native.Nat.{ℕ}
 use native.Mathlib.Numerals.{add-one}
 use Rattle.model.specs.Spans.{adjacent}
-use Rattle.segments.specs.Steps.{joins, segmentSpan}
+use Rattle.model.specs.Calls.{segmentSpan}
+use Rattle.segments.specs.Steps.{joins}
 use Rattle.segments.proofs.joins.Statement.{statement}
 use Rattle.segments.proofs.joins.Tie as tie
 
