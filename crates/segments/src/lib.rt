@@ -18,9 +18,10 @@ ghost use Prim.Native.Nat.{ℕ, suc, _-_, _≤_};
 ghost use lib.ListN.{length};
 ghost use Rattle.model.specs.Spans.{frameCount};
 ghost use Rattle.model.specs.Segments.{framesFrom, segments};
-ghost use Rattle.model.specs.Questions.{refused, lent, segmentsQuestions, mostRecords};
+ghost use Rattle.model.specs.Questions.{refused, lent, logQuestions, segmentsQuestions, mostRecords};
 ghost use Rattle.model.specs.Calls.{segmentSpan, segmentsCase, segmentsOutcome, logSegments};
 ghost use Rattle.model.specs.Arrays.{spansIn, segmentArrays};
+ghost use Rattle.model.specs.Demands.{AllPass};
 ghost use Rattle.tally.specs.Tally.{ownsIn, Survey, ownValue};
 ghost use Rattle.segments.specs.Steps.{joins, arraysOf, Made, behind};
 
@@ -198,6 +199,38 @@ pub fn find<'a>(
     made
 }
 
+// The segments of a log whose questions are passed.
+pub fn of_log(log: &[u8], kind: u8) -> Segments
+    requires { ⌜ AllPass (logQuestions (now log)) ⌝ }
+    ensures { λ r. ⌜ r ≡ segmentArrays (logSegments kind (now (log .entry))) ⌝ }
+{
+    let records = log::decode(log);
+    let record_count = records.count;
+    let mut groups = [0u8; MOST_SEGMENTS];
+    let mut firsts = [0u16; MOST_SEGMENTS];
+    let mut lasts = [0u16; MOST_SEGMENTS];
+    let mut values = [0u32; MOST_SEGMENTS];
+    let count = find(
+        &records.groups,
+        &records.firsts,
+        &records.lasts,
+        &records.loads,
+        record_count,
+        kind,
+        &mut groups,
+        &mut firsts,
+        &mut lasts,
+        &mut values,
+    );
+    Segments {
+        groups,
+        firsts,
+        lasts,
+        values,
+        count,
+    }
+}
+
 // A refused segment call.
 fn refuse(question: u8, index: usize) -> Found
     ensures { λ r. ⌜ (segmentsCase (r .answer) ≡ refused question index) × (r .segments ≡ segmentArrays []) ⌝ }
@@ -227,33 +260,10 @@ pub fn find_in_log(log: &[u8], kind: u8, places: usize) -> Found
     }
     match log::ask(log) {
         Asked::Passed => {
-            let records = log::decode(log);
-            let record_count = records.count;
-            let mut groups = [0u8; MOST_SEGMENTS];
-            let mut firsts = [0u16; MOST_SEGMENTS];
-            let mut lasts = [0u16; MOST_SEGMENTS];
-            let mut values = [0u32; MOST_SEGMENTS];
-            let count = find(
-                &records.groups,
-                &records.firsts,
-                &records.lasts,
-                &records.loads,
-                record_count,
-                kind,
-                &mut groups,
-                &mut firsts,
-                &mut lasts,
-                &mut values,
-            );
+            let segments = of_log(log, kind);
             Found {
-                answer: SegmentsAnswer::Found(count),
-                segments: Segments {
-                    groups,
-                    firsts,
-                    lasts,
-                    values,
-                    count,
-                },
+                answer: SegmentsAnswer::Found(segments.count),
+                segments,
             }
         }
         Asked::Refused(refusal) => refuse(refusal.question, refusal.index),

@@ -163,7 +163,7 @@ module _ (kind : ℕ) (rs rows : List (Span ℕ)) where
 -- ---- a slot that is accepted
 
 -- the mark of a slot by a bound is one of a slot's
-bound-marked : (slot : List ℕ) → marked slot 0 0x50 byBound ≡ true → headerMarked slot ≡ true
+pub bound-marked : (slot : List ℕ) → marked slot 0 0x50 byBound ≡ true → headerMarked slot ≡ true
 unfolding headerMarked
 bound-marked slot e = rw e
 

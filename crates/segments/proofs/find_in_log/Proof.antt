@@ -1,21 +1,16 @@
 -- `segments::find_in_log` meets its contract: places, kind, and then the log's own questions. Assumes nothing.
 use borrow.Author.Needs.{needs}
-use mathlib.Core.Path.{_≡_, refl, sym, ap, _∙_}
+use mathlib.Core.Path.{sym, ap, _∙_}
 use Prim.Native.Nat.{ℕ}
 use mathlib.Core.List.{List, []}
 use native.Mathlib.Omega.{arith}
 use borrow.Author.Tests.{le-leb, lt-leb}
 use Rattle.model.specs.Questions.{accepted, outcome, lent, ask, askRoom, mostKind, kindKnown, logQuestions, mostSegments, segmentsQuestions}
-use Rattle.model.specs.Calls.{askedCase, segmentsCase, segmentsOutcome, logSegments}
-use Rattle.model.specs.Arrays.{spansIn, column, recordsIn, segmentArrays}
-use Rattle.model.specs.Spans.{Span}
-use Rattle.model.specs.Log.{records}
-use Rattle.model.specs.Segments.{segments}
+use Rattle.model.specs.Calls.{askedCase, segmentsCase, segmentsOutcome}
+use Rattle.model.specs.Arrays.{segmentArrays}
 use Rattle.model.specs.Demands.{AllPass}
 use Rattle.model.specs.declared.Segments.{Segments}
 use Rattle.theory.proofs.Refusals.{outcome-accepted, all-outcome, all-lent, refused-lent, refused-same}
-use Rattle.log.proofs.Asking.{few-records, decoded-count}
-use Rattle.log.proofs.Columns.{records-held}
 use Rattle.segments.proofs.find_in_log.Statement.{statement}
 use Rattle.segments.proofs.find_in_log.Tie as tie
 
@@ -23,13 +18,6 @@ passed : (c : tie.After-enum-told) → AllPass (logQuestions (c .before .before 
 unfolding askedCase
 passed c =
     outcome-accepted _ (tt {0}) (tt {0}) (sym (c .before .before .ask .ensures) ∙ ap askedCase (c .enum-told .given .1)) .0
-
--- the records decoded are the log's
-of-log : (d : tie.After-decode)
-    → spansIn (d .decode .result .groups) (d .decode .result .firsts) (d .decode .result .lasts) (d .decode .result .loads) (d .decode .result .count)
-    ≡ records (d .before .before .before .before .before .before .before .args .log .now)
-unfolding recordsIn
-of-log d = ap recordsIn (d .decode .ensures) ∙ records-held (records _)
 
 refuse-requires : tie.Need-refuse-requires
 refuse-requires c κs = search needs
@@ -57,15 +45,8 @@ ask-requires c κs = search needs
 enum-told : tie.Need-enum-told
 enum-told c = search needs
 
-decode-requires : tie.Need-decode-requires
-decode-requires c κs = few-records (c .before .before .before .before .before .before .args .log .now) (passed c)
-
-find-requires : tie.Need-find-requires
-unfolding segmentArrays column
-find-requires c κs =
-    let d = c .before .before .before .before .before .before .before .before .before in
-    let log : List ℕ = d .before .before .before .before .before .before .before .args .log .now in
-    (rw (d .decode .ensures, decoded-count log) (few-records log (passed (d .before))), refl)
+of-log-requires : tie.Need-of-log-requires
+of-log-requires c κs = passed c
 
 enum-known-refusal : tie.Need-enum-known-refusal
 enum-known-refusal c = search needs
@@ -74,15 +55,15 @@ refuse-requires-3 : tie.Need-refuse-requires-3
 refuse-requires-3 c κs = search needs
 
 returns-3 : tie.Need-returns-3
-unfolding segmentsOutcome segmentsQuestions askRoom ask kindKnown outcome lent mostSegments logSegments segmentsCase segmentArrays
+unfolding segmentsOutcome segmentsQuestions askRoom ask kindKnown outcome lent mostSegments segmentsCase segmentArrays
 returns-3 c =
-    let d = c .before .before .before .before .before .before .before .before .before .before in
-    let a = d .before .before .before .before .before .before .before .args in
+    let d = c .before in
+    let a = d .before .before .before .before .before .before .args in
     let log : List ℕ = a .log .now in
-    let room = le-leb 255 (a .places) (omega (arith, d .before .before .before .before .before .if1 .left)) in
-    let known = le-leb (a .kind) mostKind (omega (arith, d .before .before .before .before .if2 .left)) in
-    let all = passed (d .before) in
-    let found = c .find .ensures ∙ ap (λ (rs : List (Span ℕ)). segmentArrays (segments (a .kind) rs)) (of-log d) in (
+    let room = le-leb 255 (a .places) (omega (arith, d .before .before .before .before .if1 .left)) in
+    let known = le-leb (a .kind) mostKind (omega (arith, d .before .before .before .if2 .left)) in
+    let all = passed d in
+    let found = c .of-log .ensures in (
       ap (λ (s : Segments). accepted (s .count)) found ∙ simp (room, known) (sym (all-outcome (logQuestions log) _ all)),
       found ∙ simp (room, known) (ap segmentArrays (sym (all-lent (logQuestions log) _ _ all))),
     )
@@ -112,8 +93,7 @@ find-in-log-spec =
     returns-2
     ask-requires
     enum-told
-    decode-requires
-    find-requires
+    of-log-requires
     enum-known-refusal
     refuse-requires-3
     returns-3

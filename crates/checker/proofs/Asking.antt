@@ -1,0 +1,80 @@
+-- The questions of a slot against its log in parts: 1, the log's, the slot's, and 22 to 24. Assumes nothing.
+use Prim.Native.Nat.{ℕ, _≤_, _<_}
+use mathlib.Core.Bool.{Bool, true, false, _&&_, not, cond}
+use mathlib.Core.List.{List, [], _∷_, _++_}
+use mathlib.Core.Path.{_≡_, refl, sym, _∙_}
+use borrow.Author.Tests.{le-leb, lt-leb}
+use lib.Dec.{eqb}
+use lib.ListN.{length}
+use Rattle.model.specs.Spans.{Span}
+use Rattle.model.specs.Log.{records, greatestKind, value}
+use Rattle.model.specs.Segments.{segments}
+use Rattle.model.specs.Slot.{slotLength, byBound, slotKind, slotError, slotRows}
+use Rattle.model.specs.Questions.{Question, refused, accepted, ask, askRoom, outcome, marked, logQuestions, slotQuestions}
+use Rattle.model.specs.Check.{againstQuestions, boundedQuestions, checkQuestions, checkOutcome}
+use Rattle.model.specs.Demands.{AllPass}
+use Rattle.theory.proofs.Refusals.{all-head, outcome-accepted, refused-first, passed-first}
+use Rattle.theory.proofs.Check.{bound-marked}
+use Rattle.theory.proofs.Asking.{answer}
+use Rattle.theory.proofs.Tests.{cases}
+use Rattle.compare.specs.declared.Compared.{Compared}
+use Rattle.compare.specs.Found.{Compares}
+
+-- 23 is asked of kind 3 alone
+pub asked-of : (greatest reaches : Bool) → cond greatest reaches true ≡ not (greatest && not reaches)
+asked-of true true = refl
+asked-of true false = refl
+asked-of false reaches = refl
+
+-- what is found of the rows answers 22 to 24
+pub found-answers : (kind error : ℕ) (rows segs rs : List (Span ℕ)) (found : Compared) → Compares rows segs found → segs ≡ segments kind rs
+    → answer (ask 22 0 (found .same) ∷ ask 23 0 (cond (eqb kind greatestKind) (found .reaches) true) ∷ ask 24 0 (eqb error (found .error)) ∷ [])
+    ≡ answer (againstQuestions kind error rows (value kind rs))
+unfolding againstQuestions outcome ask
+found-answers kind error rows segs rs found compares is =
+    cases (found .same)
+    (λ t.
+    rw (sym (compares .same kind rs is), t, compares .reaches kind rs is t, compares .error kind rs is t))
+    (λ t. rw (sym (compares .same kind rs is), t))
+
+-- once a slot has the mark of a bound, what every slot is asked decides
+pub marked-slot : (slot : List ℕ) → 768 ≤ length slot → marked slot 0 0x50 byBound ≡ true → answer (slotQuestions slot) ≡ answer (boundedQuestions slot)
+unfolding slotQuestions boundedQuestions outcome askRoom ask slotLength
+marked-slot slot long mark = rw (le-leb 768 (length slot) long, bound-marked slot mark, mark)
+
+-- so that a slot that passes passes what every slot is asked
+pub slot-passed : (slot : List ℕ) → 768 ≤ length slot → answer (boundedQuestions slot) ≡ accepted tt → AllPass (slotQuestions slot)
+unfolding boundedQuestions ask
+slot-passed slot long e =
+    let mark = all-head _ _ (outcome-accepted (boundedQuestions slot) tt tt e .0) in
+    outcome-accepted (slotQuestions slot) tt tt (marked-slot slot long mark ∙ e) .0
+
+module _ (log slot : List ℕ) where
+  abbrev against : List Question
+  against = againstQuestions (slotKind slot) (slotError slot) (slotRows slot) (value (slotKind slot) (records log))
+
+  -- 1
+  pub short-slot : length slot < 768 → checkOutcome log slot ≡ refused 1 0
+  unfolding checkOutcome checkQuestions outcome askRoom ask slotLength
+  short-slot short = rw (lt-leb 768 (length slot) short)
+
+  module _ (long : 768 ≤ length slot) where
+    behind-room : checkOutcome log slot ≡ answer (logQuestions log ++ (boundedQuestions slot ++ against))
+    unfolding checkOutcome checkQuestions outcome askRoom ask slotLength
+    behind-room = rw (le-leb 768 (length slot) long)
+
+    -- the log's
+    pub refused-log : (n i : ℕ) → answer (logQuestions log) ≡ refused n i → checkOutcome log slot ≡ refused n i
+    refused-log n i e = behind-room ∙ refused-first (logQuestions log) (boundedQuestions slot ++ against) tt tt n i e
+
+    module _ (logged : answer (logQuestions log) ≡ accepted tt) where
+      behind-log : checkOutcome log slot ≡ answer (boundedQuestions slot ++ against)
+      behind-log = behind-room ∙ passed-first (logQuestions log) (boundedQuestions slot ++ against) tt tt logged
+
+      -- the slot's
+      pub refused-slot : (n i : ℕ) → answer (boundedQuestions slot) ≡ refused n i → checkOutcome log slot ≡ refused n i
+      refused-slot n i e = behind-log ∙ refused-first (boundedQuestions slot) against tt tt n i e
+
+      -- and those behind
+      pub behind-slot : answer (boundedQuestions slot) ≡ accepted tt → checkOutcome log slot ≡ answer against
+      behind-slot e = behind-log ∙ passed-first (boundedQuestions slot) against tt tt e

@@ -1,0 +1,2 @@
+-- The questions of the check in parts.
+pub mod Asking
