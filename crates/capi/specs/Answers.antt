@@ -7,10 +7,10 @@ use mathlib.Core.Path.{_≡_}
 use Rattle.model.specs.Spans.{Span}
 use Rattle.model.specs.Questions.{Outcome, refused, accepted}
 use Rattle.model.specs.Calls.{Counts, Header}
-use Rattle.model.specs.Demands.{FilePromise, SegmentsPromise, RuledPromise}
+use Rattle.model.specs.Demands.{FilePromise, SegmentsPromise, RuledPromise, CheckPromise}
 use Rattle.model.specs.declared.RuledQuery.{RuledQuery}
 use Rattle.model.specs.declared.Segment.{Segment}
-use Rattle.capi.specs.declared.answers.CRecordAnswer.{CRecordAnswer}
+use Rattle.capi.specs.declared.answers.CAnswer.{CAnswer}
 use Rattle.capi.specs.declared.answers.CLogAnswer.{CLogAnswer}
 use Rattle.capi.specs.declared.answers.CQueryAnswer.{CQueryAnswer}
 use Rattle.capi.specs.declared.answers.CSegmentsAnswer.{CSegmentsAnswer}
@@ -22,9 +22,13 @@ use Rattle.capi.specs.declared.answers.CLookupAnswer.{CLookupAnswer}
 unfoldable pub spanOf : ℕ → ℕ → ℕ → ℕ → Span ℕ
 spanOf group first last load = record { group = group; first = first; last = last; value = load }
 
-unfoldable pub recordFields : Outcome (Unit {0}) → CRecordAnswer
-recordFields (accepted u) = record { question = 0; index = 0 }
-recordFields (refused number index) = record { question = number; index = index }
+unfoldable pub askedFields : Outcome (Unit {0}) → CAnswer
+askedFields (accepted u) = record { question = 0; index = 0 }
+askedFields (refused number index) = record { question = number; index = index }
+
+-- these fields are those of a call that keeps the promise of a check
+abbrev pub CheckFields : List ℕ → List ℕ → CAnswer → Type 0
+CheckFields log slot answer = (says : Outcome (Unit {0})) × (answer ≡ askedFields says) × CheckPromise log slot says
 
 unfoldable pub logFields : Outcome ℕ → CLogAnswer
 logFields (accepted n) = record { question = 0; index = 0; length = n }

@@ -1,5 +1,6 @@
 // The answers of the tool's calls as C structs. The question is 0 where a call is accepted; in a refusal every other field but
 // the index is 0, and so are a row's fields where there is no row.
+use model::Asked;
 use model::LogAnswer;
 use model::LookupAnswer;
 use model::QueryAnswer;
@@ -8,11 +9,12 @@ use model::RecordAnswer;
 use model::SegmentsAnswer;
 use model::Step;
 ghost use mathlib.Core.Path.{_≡_};
-ghost use Rattle.model.specs.Calls.{recordCase, logCase, queryCase, segmentsCase, readCase, stepCase, lookupCase};
-ghost use Rattle.capi.specs.Answers.{recordFields, logFields, queryFields, segmentsFields, readFields, stepFields, lookupFields, noRow};
+ghost use Rattle.model.specs.Calls.{askedCase, recordCase, logCase, queryCase, segmentsCase, readCase, stepCase, lookupCase};
+ghost use Rattle.capi.specs.Answers.{askedFields, logFields, queryFields, segmentsFields, readFields, stepFields, lookupFields, noRow};
 
+// Of a call that has nothing more to say than whether it is accepted: the record writer and the check.
 #[repr(C)]
-pub struct CRecordAnswer {
+pub struct CAnswer {
     pub question: u8,
     pub index: usize,
 }
@@ -75,15 +77,31 @@ pub struct CLookupAnswer {
 }
 
 // The record writer's answer.
-pub fn of_record(answer: RecordAnswer) -> CRecordAnswer
-    ensures { λ r. ⌜ r ≡ recordFields (recordCase answer) ⌝ }
+pub fn of_record(answer: RecordAnswer) -> CAnswer
+    ensures { λ r. ⌜ r ≡ askedFields (recordCase answer) ⌝ }
 {
     match answer {
-        RecordAnswer::Written => CRecordAnswer {
+        RecordAnswer::Written => CAnswer {
             question: 0,
             index: 0,
         },
-        RecordAnswer::Refused(refusal) => CRecordAnswer {
+        RecordAnswer::Refused(refusal) => CAnswer {
+            question: refusal.question,
+            index: refusal.index,
+        },
+    }
+}
+
+// Whether every question was passed.
+pub fn of_asked(asked: Asked) -> CAnswer
+    ensures { λ r. ⌜ r ≡ askedFields (askedCase asked) ⌝ }
+{
+    match asked {
+        Asked::Passed => CAnswer {
+            question: 0,
+            index: 0,
+        },
+        Asked::Refused(refusal) => CAnswer {
             question: refusal.question,
             index: refusal.index,
         },

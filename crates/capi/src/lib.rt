@@ -3,11 +3,11 @@
 // the places lent to it hold afterwards, and has no `requires`.
 mod answers;
 
+use answers::CAnswer;
 use answers::CLogAnswer;
 use answers::CLookupAnswer;
 use answers::CQueryAnswer;
 use answers::CReadAnswer;
-use answers::CRecordAnswer;
 use answers::CSegmentsAnswer;
 use answers::CStepAnswer;
 use model::Record;
@@ -20,7 +20,8 @@ ghost use Rattle.model.specs.Demands.{LetterPromise};
 ghost use Rattle.model.specs.Calls.{Counts, writeOutcome, writtenBuffer, withoutTwinsOutcome, withoutTwinsBuffer, letterOutcome, letterSlot, segmentsOutcome, filledList};
 ghost use Rattle.model.specs.Calls.{ruledOutcome, ruledSlot, beatQuery, sceneQuery};
 ghost use Rattle.model.specs.Calls.{readOutcome, readListOutcome, readList, stepOutcome, stepNext, lookupOutcome};
-ghost use Rattle.capi.specs.Answers.{spanOf, recordFields, logFields, FileFields, queryFields, RuledFields, segmentsFields, SegmentsFields, readFields, stepFields, lookupFields};
+ghost use Rattle.model.specs.Check.{checkOutcome};
+ghost use Rattle.capi.specs.Answers.{spanOf, askedFields, CheckFields, logFields, FileFields, queryFields, RuledFields, segmentsFields, SegmentsFields, readFields, stepFields, lookupFields};
 
 // Writes a record to the front of a buffer.
 #[no_mangle]
@@ -30,8 +31,8 @@ pub extern "C" fn pacer_write_record(
     last: u16,
     load: u16,
     buffer: &mut [u8],
-) -> CRecordAnswer
-    ensures says { λ r. ⌜ r ≡ recordFields (writeOutcome (spanOf group first last load) (length (now (buffer .entry)))) ⌝ }
+) -> CAnswer
+    ensures says { λ r. ⌜ r ≡ askedFields (writeOutcome (spanOf group first last load) (length (now (buffer .entry)))) ⌝ }
     ensures holds { λ _. ⌜ now (buffer .exit) ≡ writtenBuffer (spanOf group first last load) (now (buffer .entry)) ⌝ }
 {
     let record = Record {
@@ -150,4 +151,15 @@ pub extern "C" fn pacer_lookup(slot: &[u8], group: u8, frame: u16) -> CLookupAns
 {
     let answer = pacer::lookup(slot, group, frame);
     answers::of_lookup(answer)
+}
+
+// Whether a slot agrees with its log: its rows cover just the covered frames, none of kind 3 is below a covered value, and its error is their
+// squared error.
+#[no_mangle]
+pub extern "C" fn pacer_check(log: &[u8], slot: &[u8]) -> CAnswer
+    ensures says { λ r. ⌜ r ≡ askedFields (checkOutcome (now (log .entry)) (now (slot .entry))) ⌝ }
+    ensures promise { λ r. ⌜ CheckFields (now (log .entry)) (now (slot .entry)) r ⌝ }
+{
+    let answer = checker::check(log, slot);
+    answers::of_asked(answer)
 }

@@ -2,7 +2,7 @@
 use borrow.Author.Needs.{needs}
 use mathlib.Core.Path.{ap, _∙_}
 use Rattle.model.specs.Calls.{recordSpan}
-use Rattle.capi.specs.Answers.{spanOf, recordFields}
+use Rattle.capi.specs.Answers.{spanOf, askedFields}
 use Rattle.capi.proofs.pacer_write_record.Statement.{statement}
 use Rattle.capi.proofs.pacer_write_record.Tie as tie
 
@@ -19,7 +19,7 @@ returns : tie.Need-returns
 unfolding spanOf recordSpan
 returns c =
     let e = c .before .before .before .write-record .ensures in
-    (c .of-record .ensures ∙ ap recordFields (e .0), e .1)
+    (c .of-record .ensures ∙ ap askedFields (e .0), e .1)
 
 pub pacer-write-record-spec : {M : Type 1} → statement M
 pacer-write-record-spec =

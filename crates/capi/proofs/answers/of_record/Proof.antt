@@ -1,7 +1,7 @@
 -- `of_record` meets its contract: the record writer's answer, case by case. Assumes nothing.
 use borrow.Author.Needs.{needs}
 use Rattle.model.specs.Calls.{recordCase}
-use Rattle.capi.specs.Answers.{recordFields}
+use Rattle.capi.specs.Answers.{askedFields}
 use Rattle.capi.proofs.answers.of_record.Statement.{statement}
 use Rattle.capi.proofs.answers.of_record.Tie as tie
 
@@ -12,11 +12,11 @@ enum-known-answer : tie.Need-enum-known-answer
 enum-known-answer c = search needs
 
 returns : tie.Need-returns
-unfolding recordFields recordCase
+unfolding askedFields recordCase
 returns c = rw (c .enum-told .given .1)
 
 returns-2 : tie.Need-returns-2
-unfolding recordFields recordCase
+unfolding askedFields recordCase
 returns-2 c = rw (c .before .answer .given .1)
 
 pub of-record-spec : {M : Type 1} → statement M
