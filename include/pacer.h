@@ -4,14 +4,15 @@
  * other calls read. By a bound it finds the log's constant segments and merges them; by windows,
  * beats or scenes, it gives each group a row for each window that one of its records meets. Records
  * with the same nine bytes are twins; a log that has some is refused, and pacer_without_twins keeps
- * the first of them.
+ * the first of them. pacer_check holds a slot by a bound, whoever made it, to its log.
  *
  * Records may stand in any order, as where two consoles feed one log. Logs that pass questions 4 to
  * 9 and 21 and hold the same records, in whatever order, have the same segments; and every query in
  * order itself, with a slot long enough, gives the same answer, cuts weighed included, and the same
- * first 768 bytes of the slot, or is refused with the same one of 10 and 20. A log that does not
- * pass is refused with its first 'no' in the order as lent, and the index (6 to 9 and 21) is that of
- * the log as lent. pacer_without_twins keeps the order that it finds.
+ * first 768 bytes of the slot, or is refused with the same one of 10 and 20; and a slot that is held
+ * to them gets the same answer. A log that does not pass is refused with its first 'no' in the order
+ * as lent, and the index (6 to 9 and 21) is that of the log as lent. pacer_without_twins keeps the
+ * order that it finds.
  *
  * Every call asks its questions in the order given at the call. The answer's field `question` is
  * 0 if all got 'yes'. Otherwise it is the number of the first question that got 'no', `index` is
@@ -29,7 +30,7 @@
  *    8  Is first at most last?
  *    9  Is the load at most 1,000?
  *   10  Is the row limit at least the count of runs; with a share, do 64 rows or fewer meet it?
- *   11  Header mark right (50 48 or 50 53)?
+ *   11  Header mark right (50 48 or 50 53; against a log 50 48 alone)?
  *   12  Slot's kind 0 to 4?
  *   13  Row count at most 64?
  *   14  Row mark right?
@@ -41,6 +42,9 @@
  *       scene wholly after the one before?
  *   20  Are there at most 64 rows?
  *   21  Does no earlier record have the same nine bytes?
+ *   22  Do the rows cover, group by group, just the covered frames?
+ *   23  Is no row of kind 3 below the value of a covered frame in it?
+ *   24  Is the header's error the squared error of the rows, summed frame by frame?
  *
  * The questions of one record or row come before the next one's, 21 of a record after its 9.
  *
@@ -56,7 +60,7 @@
 #include <stdint.h>
 
 /* The version of the library that this header describes. */
-#define PACER_VERSION "0.14.0"
+#define PACER_VERSION "0.15.0"
 
 #ifdef __cplusplus
 extern "C" {
@@ -79,6 +83,7 @@ enum {
     PACER_QUERY_STACK = 300 * 1024,       /* any by a bound: 48 KB to 64 segments, 96 KB to 128 */
     PACER_WINDOWS_STACK = 10 * 1024,      /* a query by beats or scenes */
     PACER_SEGMENTS_STACK = 10 * 1024,
+    PACER_CHECK_STACK = 12 * 1024,        /* a slot against its log */
     PACER_SLOT_STACK = 3 * 1024           /* every other call */
 };
 
@@ -137,6 +142,11 @@ struct pacer_read_answer {
     uint8_t mark;       /* PACER_BY_BOUND or PACER_BY_WINDOWS */
     size_t rows;
     uint64_t error;
+};
+
+struct pacer_check_answer {
+    uint8_t question;
+    size_t index;
 };
 
 struct pacer_step_answer {
@@ -287,6 +297,27 @@ struct pacer_step_answer pacer_row_at(const uint8_t *slot, size_t length, size_t
  */
 struct pacer_lookup_answer pacer_lookup(const uint8_t *slot, size_t length, uint8_t group,
                                         uint16_t frame);
+
+/* Holds a slot by a bound to its log: whether its rows are rows of this log, and its error theirs. It
+ * is for slots that come with their logs, made by whichever tool.
+ * Asks 1 (768 bytes of slot), 4, 5, then 6 to 9 and 21 for record after record, 11 (the header 50 48
+ * alone), 12, 13, then 14 to 16 for row after row, 17, 22, 23, 24. A frame's value is that of the
+ * slot's kind. 22: a frame of a group lies in a row exactly if a record of that group contains it;
+ * that is the same for every kind. 23 is asked of slots of kind 3 alone. 24: the error is the sum over
+ * all covered frames of the square of the frame's value less its row's.
+ * Writes nothing. The index is that of the record or row concerned for 6 to 9, 14 to 16 and 21.
+ * Accepted: the rows are a list that fits the log for the kind, and the error is its squared error.
+ * They need not be the best: rows cut finer than needed are accepted, and rows of any value, of kind
+ * 3 of any that is nowhere below a covered value.
+ * Every slot that pacer_query writes for a log is accepted with that log. No slot that is accepted is
+ * better than the query's own answer: pacer_query of the slot's kind, with PACER_ROWS and the slot's
+ * count of rows, is accepted, with at most as many rows and at most the slot's error.
+ * Any order: with a log that passes 4 to 9 and 21 the answer is the same with its records in any
+ * other order.
+ * `log` and `slot` are only read, and may overlap.
+ */
+struct pacer_check_answer pacer_check(const uint8_t *log, size_t log_length,
+                                      const uint8_t *slot, size_t slot_length);
 
 #ifdef __cplusplus
 }
