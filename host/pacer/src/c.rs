@@ -65,6 +65,14 @@ pub struct ReadAnswer {
     pub error: u64,
 }
 
+/// The answer of [`check`].
+#[repr(C)]
+#[derive(Clone, Copy, Debug, PartialEq, Eq)]
+pub struct CheckAnswer {
+    pub question: u8,
+    pub index: usize,
+}
+
 /// The answer of [`row_at`]; `found` is 1 for a row and 0 at the end and in a refusal.
 #[repr(C)]
 #[derive(Clone, Copy, Debug, PartialEq, Eq)]
@@ -188,6 +196,12 @@ mod declared {
         ) -> ReadAnswer;
         pub fn pacer_row_at(slot: *const u8, length: usize, number: usize) -> StepAnswer;
         pub fn pacer_lookup(slot: *const u8, length: usize, group: u8, frame: u16) -> LookupAnswer;
+        pub fn pacer_check(
+            log: *const u8,
+            log_length: usize,
+            slot: *const u8,
+            slot_length: usize,
+        ) -> CheckAnswer;
     }
 }
 
@@ -315,4 +329,12 @@ pub fn row_at(slot: &[u8], number: usize) -> StepAnswer {
 pub fn lookup(slot: &[u8], group: u8, frame: u16) -> LookupAnswer {
     // SAFETY: pointer and length are those of a slice.
     unsafe { declared::pacer_lookup(slot.as_ptr(), slot.len(), group, frame) }
+}
+
+/// Calls `pacer_check`.
+#[inline]
+pub fn check(log: &[u8], slot: &[u8]) -> CheckAnswer {
+    // SAFETY: pointers and lengths are those of shared slices. The call writes nothing, so that they
+    // may overlap.
+    unsafe { declared::pacer_check(log.as_ptr(), log.len(), slot.as_ptr(), slot.len()) }
 }

@@ -43,14 +43,15 @@
 //!
 //! Every call asks its questions in order. The first that gets 'no' is the [`Refusal`], and then
 //! nothing lent to the call is changed. A log that holds a record twice is refused by question 21;
-//! [`without_twins`] is for such logs on file.
+//! [`without_twins`] is for such logs on file. A slot that comes with its log, made by whichever
+//! tool, is held to it by [`check`].
 //!
 //! Records may stand in any order, as where two consoles feed one log. Logs that pass questions 4
 //! to 9 and 21 and hold the same records, in whatever order, have the same [`segments`]; and every
 //! [`query`] in order itself, with a slot long enough, gives the same [`Reduction`], cuts weighed
-//! included, and the same 768 bytes of the slot, or is refused with the same one of 10 and 20. A
-//! log that does not pass is refused with its first 'no' in the order as lent, and the index is
-//! that of the log as lent.
+//! included, and the same 768 bytes of the slot, or is refused with the same one of 10 and 20; and
+//! [`check`] gives a slot the same answer. A log that does not pass is refused with its first 'no'
+//! in the order as lent, and the index is that of the log as lent.
 
 #![deny(unsafe_code)]
 #![warn(missing_docs)]
@@ -269,7 +270,7 @@ pub struct Reduction {
 /// ```
 #[derive(Clone, Copy, Debug, PartialEq, Eq, Hash)]
 pub struct Refusal {
-    /// The question's number, 1 to 21.
+    /// The question's number, 1 to 24.
     pub question: u8,
     /// The index from 0 of the record or row concerned, for questions 6 to 9, 14 to 16 and 21; 0
     /// for the others.
@@ -281,7 +282,10 @@ impl Refusal {
     ///
     /// ```
     /// let refusal = pacer::read(&[0; 768]).unwrap_err();
-    /// assert_eq!(refusal.words(), "Header mark right (50 48 or 50 53)?");
+    /// assert_eq!(
+    ///     refusal.words(),
+    ///     "Header mark right (50 48 or 50 53; against a log 50 48 alone)?"
+    /// );
     /// ```
     pub fn words(&self) -> &'static str {
         match self.question {
@@ -295,7 +299,7 @@ impl Refusal {
             8 => "Is first at most last?",
             9 => "Is the load at most 1,000?",
             10 => "Is c at least m; with a share, do 64 rows or fewer meet it?",
-            11 => "Header mark right (50 48 or 50 53)?",
+            11 => "Header mark right (50 48 or 50 53; against a log 50 48 alone)?",
             12 => "Slot's kind 0 to 4?",
             13 => "Row count at most 64?",
             14 => "Row mark right?",
@@ -306,6 +310,9 @@ impl Refusal {
             19 => "Are there 1 to 16 scenes, as many firsts as lasts, each first at most its last, and each scene wholly after the one before?",
             20 => "Are there at most 64 rows?",
             21 => "Does no earlier record have the same nine bytes?",
+            22 => "Do the rows cover, group by group, just the covered frames?",
+            23 => "Is no row of kind 3 below the value of a covered frame in it?",
+            24 => "Is the header's error the squared error of the rows, summed frame by frame?",
             _ => "unknown question",
         }
     }
@@ -571,7 +578,7 @@ pub fn query(query: Query, log: &[u8], slot: &mut [u8]) -> Result<Reduction, Ref
 /// Reads a slot with all of its rows.
 ///
 /// Asks questions 1 and 11 to 17. Every error number is accepted, under the header of windows 0
-/// alone. Whether the slot belongs to some log is the caller's care.
+/// alone. Whether the slot belongs to some log is not asked here, but by [`check`].
 ///
 /// ```
 /// let mut slot = [0; pacer::SLOT_BYTES];
@@ -683,6 +690,11 @@ impl Profile<'_> {
     pub fn lookup(&self, group: u8, frame: u16) -> Result<Option<u32>, Refusal> {
         lookup(self.slot, group, frame)
     }
+
+    /// Whether the rows and the error are those of a log, as [`check`] says.
+    pub fn check(&self, log: &[u8]) -> Result<(), Refusal> {
+        check(log, self.slot)
+    }
 }
 
 impl<'a> IntoIterator for &'a Profile<'_> {
@@ -773,4 +785,52 @@ pub fn lookup(slot: &[u8], group: u8, frame: u16) -> Result<Option<u32>, Refusal
     let answer = c::lookup(slot, group, frame);
     Refusal::from_answer(answer.question, answer.index)?;
     Ok((answer.covered == 1).then_some(answer.value))
+}
+
+/// Holds a slot by a bound, made by whichever tool, to the log that it comes with: `Ok` exactly if
+/// the rows cover, group by group, just the covered frames, no row of kind 3 is below the value of a
+/// covered frame in it, and the error is the squared error of the rows, summed frame by frame.
+/// Values are those of the slot's kind.
+///
+/// Asks questions 1, 4 to 9 and 21 of the log, 11 to 17 of the slot, whose header is `50 48` alone
+/// here, and then 22, 23 (of kind 3 alone) and 24.
+///
+/// Every slot that [`query`] writes by a bound passes with its log. Rows need not be the best: those
+/// cut finer than needed pass too, and with any values. But no slot that passes is better than the
+/// query's own answer: [`query`] of its kind, with [`Rule::Rows`] of its count of rows, is accepted,
+/// with at most as many rows and at most its error. The answer for a log that passes 4 to 9 and 21 is
+/// the same with its records in any other order.
+///
+/// ```
+/// use pacer::{Bound, Kind, Query, Record};
+///
+/// // A load of 200 with a peak of 900, in one row.
+/// let mut records = [
+///     Record { group: 0, first: 0, last: 59, load: 200 },
+///     Record { group: 0, first: 30, last: 31, load: 900 },
+/// ];
+/// let log = pacer::log(&records)?;
+/// let mut slot = [0; pacer::SLOT_BYTES];
+/// let query = Query { kind: Kind::GREATEST, bound: Bound::Rows(1) };
+/// pacer::query(query, &log, &mut slot)?;
+/// assert_eq!(pacer::check(&log, &slot), Ok(()));
+/// assert_eq!(pacer::read(&slot)?.check(&log), Ok(()));
+///
+/// // In any order of its records, and not with another log.
+/// records.reverse();
+/// assert_eq!(pacer::check(&pacer::log(&records)?, &slot), Ok(()));
+/// let question = |log: &[u8], slot: &[u8]| pacer::check(log, slot).unwrap_err().question;
+/// assert_eq!(question(&pacer::log(&records[..1])?, &slot), 22);
+///
+/// // The row's value is at byte 19, its last frame at byte 17, and the error at byte 4.
+/// for (byte, expected) in [(19, 23), (17, 22), (4, 24)] {
+///     let mut damaged = slot;
+///     damaged[byte] -= 1;
+///     assert_eq!(question(&log, &damaged), expected);
+/// }
+/// # Ok::<(), pacer::Refusal>(())
+/// ```
+pub fn check(log: &[u8], slot: &[u8]) -> Result<(), Refusal> {
+    let answer = c::check(log, slot);
+    Refusal::from_answer(answer.question, answer.index)
 }
