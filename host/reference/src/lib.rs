@@ -5,8 +5,9 @@
 //! error of a block is summed over its segments, not computed from totals; the reduction is a
 //! plain table over all cuts, with no early exit, and the cuts that the paper's scan weighs are
 //! counted beside it. Rows by windows are found window by window, the empty ones included. Twins are
-//! found in a set of the records' bytes. [`brute`] goes further: it tries every list of rows for a
-//! small log, goes through the frames of a window, and holds every record to every earlier one.
+//! found in a set of the records' bytes. A slot is held to its log frame by frame. [`brute`] goes
+//! further: it tries every list of rows for a small log, goes through the frames of a window, and
+//! holds every record to every earlier one.
 
 #![forbid(unsafe_code)]
 
@@ -664,7 +665,7 @@ pub fn without_twins(log: &[u8], room: usize) -> Result<Vec<u8>, No> {
 }
 
 // ---------------------------------------------------------------------------------------------
-// Slot, reader, walk, lookup, writer
+// Slot, reader, walk, lookup, a slot against its log, writer
 
 /// The 768 bytes of a slot; the mark is the second byte.
 pub fn layout(mark: u8, kind: u8, error: u64, rows: &[Stretch]) -> Vec<u8> {
@@ -726,6 +727,51 @@ pub fn lookup(slot: &[u8], group: u8, frame: u16) -> Result<Option<u32>, No> {
         .iter()
         .find(|row| row.contains(group, u32::from(frame)))
         .map(|row| row.value))
+}
+
+/// Holds a slot to a log, frame by frame: each frame of each group is asked which records and which
+/// row contain it. A frame outside all that records and rows of its group name lies in none of them,
+/// and is not gone to. The error is summed in 128 bits; 64 would do, since 8 groups of 65,536 frames
+/// with differences of at most 128,000 have at most 8,589,934,592,000,000.
+pub fn check(log: &[u8], slot: &[u8]) -> Result<(), No> {
+    ask([(1, 0, slot.len() >= 768)])?;
+    ask_log(log)?;
+    ask([(11, 0, slot[..2] == [0x50, BY_BOUND])])?;
+    let Contents {
+        kind, error, rows, ..
+    } = read(slot)?;
+    let records = records(log);
+    let (mut same_cover, mut nowhere_below, mut summed) = (true, true, 0);
+    for group in 0..8 {
+        let of_group = of_group(&records, group);
+        let rows: Vec<&Stretch> = rows.iter().filter(|row| row.group == group).collect();
+        let named = of_group
+            .iter()
+            .map(|record| (record.first, record.last))
+            .chain(rows.iter().map(|row| (row.first, row.last)));
+        let first = named.clone().map(|(first, _)| u32::from(first)).min();
+        let last = named.map(|(_, last)| u32::from(last)).max();
+        let (Some(first), Some(last)) = (first, last) else {
+            continue;
+        };
+        for frame in first..=last {
+            let value = value_of(&of_group, kind, frame);
+            let row = rows.iter().find(|row| row.contains(group, frame));
+            match (value, row) {
+                (Some(value), Some(row)) => {
+                    nowhere_below &= value <= row.value;
+                    summed += u128::from(value.abs_diff(row.value)).pow(2);
+                }
+                (None, None) => {}
+                _ => same_cover = false,
+            }
+        }
+    }
+    ask([
+        (22, 0, same_cover),
+        (23, 0, kind != GREATEST || nowhere_below),
+        (24, 0, u128::from(error) == summed),
+    ])
 }
 
 /// The 9 bytes of a record, for a buffer of some length.
@@ -1049,6 +1095,118 @@ mod tests {
         assert_eq!(question(&bad, 90), no(7, 7));
         bad[9 * 7] = 0;
         assert_eq!(question(&bad, 90), no(6, 7));
+    }
+
+    /// The slot of some rows, with any error.
+    fn slot(kind: u8, error: u64, rows: &[(u8, u16, u16, u32)]) -> Vec<u8> {
+        let rows: Vec<Stretch> = rows
+            .iter()
+            .map(|(group, first, last, value)| Stretch {
+                group: *group,
+                first: *first,
+                last: *last,
+                value: *value,
+            })
+            .collect();
+        layout(BY_BOUND, kind, error, &rows)
+    }
+
+    /// Log G with four rows of the sum, as they are, with the numbers of hand-made slots beside
+    /// them, and each question of a slot against its log.
+    #[test]
+    fn slot_against_log_g() {
+        let g = log_g();
+        let asked = |slot: &[u8]| check(&g, slot).map_err(|no| (no.question, no.index));
+        let rows = [(0, 0, 1, 100), (0, 2, 6, 242), (0, 9, 10, 50), (1, 0, 0, 7)];
+        let sum = |error, rows: &[_]| asked(&slot(0, error, rows));
+        assert_eq!(sum(11_280, &rows), Ok(()));
+        for error in [0, 11_279, 11_281, u64::MAX] {
+            assert_eq!(sum(error, &rows), Err((24, 0)));
+        }
+        // Cut finer between frames 4 and 5; and one above 242, the mean of five frames: 5 more.
+        let finer = [rows[0], (0, 2, 4, 242), (0, 5, 6, 242), rows[2], rows[3]];
+        assert_eq!(sum(11_280, &finer), Ok(()));
+        let other = [rows[0], (0, 2, 6, 243), rows[2], rows[3]];
+        assert_eq!(sum(11_285, &other), Ok(()));
+        // A row across the gap, short of it, past the end, in another group, and none.
+        for (place, row) in [
+            (1, (0, 2, 8, 242)),
+            (1, (0, 2, 7, 242)),
+            (1, (0, 2, 5, 242)),
+            (2, (0, 10, 10, 50)),
+            (2, (0, 9, 11, 50)),
+            (3, (2, 0, 0, 7)),
+        ] {
+            let mut moved = rows;
+            moved[place] = row;
+            assert_eq!(sum(11_280, &moved), Err((22, 0)));
+        }
+        for left_out in 0..4 {
+            let mut fewer = rows.to_vec();
+            fewer.remove(left_out);
+            assert_eq!(sum(11_280, &fewer), Err((22, 0)));
+        }
+        // Kind 3: 210 for frames 2 to 6 is the least; 209 is short at frame 6, whatever the error.
+        let greatest = |value, error| {
+            let rows = [rows[0], (0, 2, 6, value), rows[2], rows[3]];
+            asked(&slot(GREATEST, error, &rows))
+        };
+        assert_eq!(greatest(210, 400), Ok(()));
+        assert_eq!(greatest(211, 4 * 121 + 1), Ok(()));
+        assert_eq!(greatest(209, 4 * 81 + 1), Err((23, 0)));
+        assert_eq!(greatest(209, 0), Err((23, 0)));
+        assert_eq!(greatest(211, 400), Err((24, 0)));
+        let least = [rows[0], (0, 2, 6, 0), rows[2], rows[3]];
+        let of_frames = 2 * 100 * 100 + 2 * 200 * 200 + 210 * 210;
+        assert_eq!(asked(&slot(2, of_frames, &least)), Ok(()));
+
+        // The questions in order.
+        let right = slot(0, 11_280, &rows);
+        let mut by_windows = right.clone();
+        by_windows[1] = BY_WINDOWS;
+        assert_eq!(asked(&by_windows), Err((11, 0)));
+        assert_eq!(asked(&right[..767]), Err((1, 0)));
+        let question = |log: &[u8], slot: &[u8]| check(log, slot).unwrap_err();
+        assert_eq!(question(&g[..44], &right[..767]).question, 1);
+        assert_eq!(question(&g[..44], &by_windows).question, 4);
+        let twice = [&g[..], &g[..9]].concat();
+        let no = No {
+            question: 21,
+            index: 5,
+        };
+        assert_eq!(question(&twice, &by_windows), no);
+        let mut tail = slot(0, 0, &rows[..1]);
+        assert_eq!(asked(&tail), Err((22, 0)));
+        tail[767] = 1;
+        assert_eq!(asked(&tail), Err((17, 0)));
+        tail[2] = 5;
+        assert_eq!(asked(&tail), Err((12, 0)));
+    }
+
+    /// The empty log, the last frame, and the greatest error that there is: all frames of all groups
+    /// with load 0 in rows of 128,000.
+    #[test]
+    fn slot_against_ends() {
+        for kind in 0..=MOST_KIND {
+            assert_eq!(check(&[], &slot(kind, 0, &[])), Ok(()));
+            let question = |slot: Vec<u8>| check(&[], &slot).unwrap_err().question;
+            assert_eq!(question(slot(kind, 1, &[])), 24);
+            assert_eq!(question(slot(kind, 0, &[(0, 0, 0, 0)])), 22);
+        }
+        let last = log(&[(7, 65_535, 65_535, 9)]);
+        assert_eq!(check(&last, &slot(0, 0, &[(7, 65_535, 65_535, 9)])), Ok(()));
+        let two = slot(0, 0, &[(7, 65_534, 65_535, 9)]);
+        assert_eq!(check(&last, &two).unwrap_err().question, 22);
+        let everywhere: Vec<_> = (0..8).map(|group| (group, 0, 65_535, 0)).collect();
+        let rows: Vec<_> = (0..8).map(|group| (group, 0, 65_535, 128_000)).collect();
+        let error = 8 * 65_536 * 128_000 * 128_000;
+        assert_eq!(error, 8_589_934_592_000_000);
+        assert_eq!(check(&log(&everywhere), &slot(0, error, &rows)), Ok(()));
+        let one_less = slot(0, error - 1, &rows);
+        assert_eq!(
+            check(&log(&everywhere), &one_less).unwrap_err().question,
+            24
+        );
     }
 
     /// Both headers; an error under that of windows is asked of after the rows.
