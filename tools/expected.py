@@ -1,6 +1,7 @@
 #!/usr/bin/env python3
-"""The expected output of the program `profile`, of queries by windows, of the call for logs on file
-and of calls on the same records in two orders, computed from the paper's words.
+"""The expected output of the program `profile`, of queries by windows, of the call for logs on file,
+of calls on the same records in two orders and of slots held to their logs, computed from the paper's
+words.
 
     expected.py INPUT                    print what `profile` prints for the file INPUT
     expected.py --cases CASES EXPECTED   write the file of cases and the file of expected output
@@ -8,20 +9,22 @@ and of calls on the same records in two orders, computed from the paper's words.
     expected.py --twins FILE             write the file of logs on file with what is kept of them
     expected.py --order FILE SHUFFLED    write two files of calls on a log, which have the same
                                          records line by line, in the second in another order
+    expected.py --check FILE             write the file of logs and slots with what is said of them
 
 An input is the kind (1 byte), 52 for a row limit or 45 for a share (hexadecimal), the bound
 (2 bytes, least byte first) and the log. In the file of cases each case is its length (2 bytes,
 least byte first) and then its bytes; the file of expected output has what `profile` prints for
 one case after another.
 
-The program takes no windows and keeps no log, so these are for the Rust tests; each query by
-windows, each log on file and each call in two orders is a line of words, which the first lines of
-its file explain.
+The program takes no windows, keeps no log and reads no slot, so these are for the Rust tests; each
+query by windows, each log on file, each call in two orders and each slot with its log is a line of
+words, which the first lines of its file explain.
 
 Frames, segments, blocks and cuts are worked out one by one with Python's whole numbers and
 fractions, by the shortest way from the words and not the fastest.
 """
 
+import functools
 import itertools
 import math
 import random
@@ -226,6 +229,11 @@ def log_questions(log, on_file=False):
             yield 21, index, nines[index] not in nines[:index]
 
 
+def refused(asked):
+    """'no' with number and index of the first question that gets 'no', or None if none does."""
+    return next((f"no {number} {index}" for number, index, yes in asked if not yes), None)
+
+
 def questions(kind, rule, bound, log):
     """The questions ahead of 10. The slot is the program's own and long enough."""
     yield 2, 0, kind in KINDS
@@ -240,9 +248,9 @@ def profile(data):
     if len(data) < 4:
         return "no 2 0\n"
     kind, rule, bound, log = data[0], data[1], whole(data[2:4]), data[4:]
-    for number, index, yes in questions(kind, rule, bound, log):
-        if not yes:
-            return f"no {number} {index}\n"
+    no = refused(questions(kind, rule, bound, log))
+    if no:
+        return no + "\n"
     answer = reduction(segments_of(log, kind), kind, rule, bound)
     if answer is None:
         return "no 10 0\n"
@@ -322,10 +330,9 @@ def slot_bytes(mark, kind, error, rows):
 def windows_answer(kind, rule, log):
     """What a query by windows answers into a slot that is long enough: 'no' with number and index,
     or the bytes of the slot up to its zeros, in hexadecimal."""
-    order = itertools.chain([(2, 0, kind in KINDS), rule.question()], log_questions(log))
-    for number, index, yes in order:
-        if not yes:
-            return f"no {number} {index}"
+    no = refused(itertools.chain([(2, 0, kind in KINDS), rule.question()], log_questions(log)))
+    if no:
+        return no
     rows = list(itertools.islice(window_rows(log, kind, rule.windows()), 65))
     if len(rows) > 64:
         return "no 20 0"
@@ -346,9 +353,9 @@ class Bound:
 
     def answer(self, kind, log):
         """'no' with number and index, or the cuts weighed and the bytes of the slot."""
-        for number, index, yes in questions(kind, self.rule, self.bound, log):
-            if not yes:
-                return f"no {number} {index}"
+        no = refused(questions(kind, self.rule, self.bound, log))
+        if no:
+            return no
         found = reduction(segments_of(log, kind), kind, self.rule, self.bound)
         if found is None:
             return "no 10 0"
@@ -377,9 +384,9 @@ class Segments:
 
     def answer(self, kind, log):
         """'no' with number and index, or the segments."""
-        for number, index, yes in itertools.chain([(2, 0, kind in KINDS)], log_questions(log)):
-            if not yes:
-                return f"no {number} {index}"
+        no = refused(itertools.chain([(2, 0, kind in KINDS)], log_questions(log)))
+        if no:
+            return no
         return " ".join(",".join(map(str, each)) for each in segments_of(log, kind)) or "-"
 
 
@@ -398,6 +405,65 @@ def without_twins(log, room):
         if nine not in kept:
             kept.append(nine)
     return b"".join(kept)
+
+
+# ---- A slot against its log ----------------------------------------------------------------
+
+
+def rows_of(slot):
+    """The rows of a slot: mark, group, first, last, value."""
+    elevens = [slot[at:at + 11] for at in range(12, 12 + 11 * slot[3], 11)]
+    return [(row[:2], row[2], whole(row[3:5]), whole(row[5:7]), whole(row[7:11]))
+            for row in elevens]
+
+
+def slot_questions(slot):
+    """Number, index and answer of the questions of a slot by a bound from 11 on, in order."""
+    yield 11, 0, slot[:2] == b"PH"
+    yield 12, 0, slot[2] in KINDS
+    yield 13, 0, slot[3] <= 64
+    rows = rows_of(slot)
+    for index, (mark, group, first, last, value) in enumerate(rows):
+        yield 14, index, mark == b"PR"
+        yield 15, index, group <= 7 and first <= last and value <= 128000
+        yield 16, index, index == 0 or (group, first) > rows[index - 1][1:4:2]
+    yield 17, 0, not any(slot[12 + 11 * len(rows):768])
+
+
+@functools.lru_cache(maxsize=8)
+def frame_values(log, kind):
+    """The value of every covered frame, by group and frame."""
+    loads = {}
+    for _, group, first, last, load in records_of(log):
+        for frame in range(first, last + 1):
+            loads.setdefault((group, frame), []).append(load)
+    return {place: aggregate(kind, each) for place, each in loads.items()}
+
+
+def row_values(rows):
+    """The value of the row that holds a frame, by group and frame. The rows have no mark."""
+    return {(group, frame): value for group, first, last, value in rows
+            for frame in range(first, last + 1)}
+
+
+def squared_error(values, held):
+    """The squared error, frame by frame, of rows that hold just the covered frames."""
+    return sum((value - held[place]) ** 2 for place, value in values.items())
+
+
+def match_questions(log, slot):
+    """The questions of a slot with its log, of which both have passed their own."""
+    kind = slot[2]
+    values, held = frame_values(log, kind), row_values(row[1:] for row in rows_of(slot))
+    yield 22, 0, values.keys() == held.keys()
+    yield 23, 0, kind != GREATEST or all(held[place] >= value for place, value in values.items())
+    yield 24, 0, whole(slot[4:12]) == squared_error(values, held)
+
+
+def check_answer(log, slot):
+    """What is said of a slot held to a log: 'yes', or 'no' with number and index."""
+    return refused(itertools.chain([(1, 0, len(slot) >= 768)], log_questions(log),
+                                   slot_questions(slot), match_questions(log, slot))) or "yes"
 
 
 # ---- The cases -----------------------------------------------------------------------------
@@ -1211,6 +1277,348 @@ def all_cases():
         halves(), at_random(), twins())))
 
 
+# ---- Slots with their logs -----------------------------------------------------------------
+
+
+def whole_slot(kind, error, rows):
+    """The 768 bytes of a slot by a bound."""
+    return bytes.fromhex(slot_bytes(b"PH", kind, error, rows)).ljust(768, b"\0")
+
+
+def with_right_error(log, kind, rows):
+    """The slot of some rows that cover what the log covers, with their error."""
+    return whole_slot(kind, squared_error(frame_values(log, kind), row_values(rows)), rows)
+
+
+def with_byte(data, place, byte):
+    return data[:place] + bytes([byte]) + data[place + 1:]
+
+
+def finer(rows):
+    """The rows with one of them cut in two, at every frame."""
+    for place, (group, first, last, value) in enumerate(rows):
+        for cut in range(first + 1, last + 1):
+            parts = [(group, first, cut - 1, value), (group, cut, last, value)]
+            yield rows[:place] + parts + rows[place + 1:]
+
+
+def as_written():
+    """Logs with the slots that a query by a bound writes for them: log, kind, rows, error."""
+    logs = [LOG_G, PROJ, SALARIES, PATIENTS, frames([0, 1]), frames([0, 1, 500, 501, 900, 907]),
+            frames([3, 1, 4, 1, 5, 9], 2, 65530)] + OVERLAPPING
+    for log in map(log_of, logs):
+        for kind in KINDS:
+            n, m = runs_of(log, kind)
+            bounds = {(ROWS, m), (ROWS, (m + n) // 2), (ROWS, n), (SHARE, 300), (SHARE, 20)}
+            for rule, bound in sorted(bounds):
+                rows, error, _ = reduction(segments_of(log, kind), kind, rule, bound)
+                yield log, kind, rows, error
+
+
+def moved(rows):
+    """The rows with one field of one of them one less or one more: its group, first, last or value."""
+    for place, row in enumerate(rows):
+        for field in range(4):
+            for step in (-1, 1):
+                other = list(row)
+                other[field] += step
+                if 0 <= other[field] <= (255, 65535, 65535, 2 ** 32 - 1)[field]:
+                    yield rows[:place] + [tuple(other)] + rows[place + 1:]
+
+
+def damaged(log, kind, rows, error):
+    """A slot that passes with its log, damaged or made otherwise: what is due where it is known by
+    the way it was made, and the slot."""
+    for wrong in sorted({error - 1, error + 1, 0, error + 2 ** 32, 2 ** 64 - 1} - {error, -1}):
+        yield "no 24 0", whole_slot(kind, wrong, rows)
+    for other in moved(rows):
+        yield None, whole_slot(kind, error, other)
+        if [row[:3] for row in other] == [row[:3] for row in rows]:
+            # One below is short of some frame where the row held the greatest value in it.
+            short = kind == GREATEST and any(one[3] < row[3] for one, row in zip(other, rows))
+            yield "no 23 0" if short else "yes", with_right_error(log, kind, other)
+    for other in (number for number in range(6) if number != kind):
+        yield None if other < 5 else "no 12 0", whole_slot(other, error, rows)
+    for mark in (b"PS", b"PC", b"PR", b"QH", b"HP"):
+        yield "no 11 0", mark + whole_slot(kind, error, rows)[2:]
+    for other in finer(rows):
+        yield "yes", whole_slot(kind, error, other)
+    for place, row in enumerate(rows):
+        yield "no 22 0", whole_slot(kind, error, rows[:place] + rows[place + 1:])
+        yield f"no 16 {place + 1}", whole_slot(kind, error, rows[:place] + [row] + rows[place:])
+    for place, (one, other) in enumerate(zip(rows, rows[1:])):
+        if one[0] == other[0]:
+            joined = rows[:place] + [(*one[:2], other[2], max(one[3], other[3]))] + rows[place + 2:]
+            if one[2] + 1 < other[1]:
+                yield "no 22 0", whole_slot(kind, error, joined)
+            else:
+                yield "yes", with_right_error(log, kind, joined)
+                yield None, whole_slot(kind, error, joined)
+
+
+def other_covers():
+    """Log G with rows over other frames than it covers, all with error 0: a row more, in the gap, at
+    its ends, over all of it, past the end of the records, in a group without records; a row that is
+    short of a frame at each end; a row across the gap."""
+    g = log_of(LOG_G)
+    rows = [tuple(row) for row in segments_of(g, 0)]
+    for more in ((0, 7, 7, 0), (0, 8, 8, 0), (0, 7, 8, 0), (0, 11, 11, 50), (0, 65535, 65535, 0),
+                 (1, 1, 1, 7), (1, 65535, 65535, 0), (2, 0, 0, 7), (7, 0, 65535, 0)):
+        yield g, whole_slot(0, 0, sorted(rows + [more]))
+    # The places of the rows 0-1, 6, 9-10 and that of group 1.
+    for place, other in ((0, (0, 1, 1, 100)), (0, (0, 0, 0, 100)), (3, (0, 6, 7, 210)),
+                         (3, (0, 6, 8, 210)), (4, (0, 10, 10, 50)), (4, (0, 9, 9, 50)),
+                         (4, (0, 8, 10, 50)), (4, (0, 7, 10, 50)), (4, (0, 9, 11, 50)),
+                         (4, (0, 9, 65535, 50)), (5, (1, 0, 1, 7)), (5, (2, 0, 0, 7))):
+        yield g, whole_slot(0, 0, rows[:place] + [other] + rows[place + 1:])
+    yield g, whole_slot(0, 0, rows[:3] + [(0, 6, 10, 210)] + rows[5:])
+    yield g, whole_slot(0, 0, [])
+    # The log of one group and the rows of another; the log without its last record, and one more.
+    yield g, whole_slot(0, 0, [(row[0] + 1, *row[1:]) for row in rows])
+    yield g[:36], whole_slot(0, 0, rows)
+    yield g + record(1, 1, 1, 7), whole_slot(0, 0, rows)
+    yield b"", whole_slot(0, 0, rows)
+
+
+# The order of the questions.
+CHECK_ORDER = [1, 4, 5, 6, 7, 8, 9, 21, *range(11, 18), 22, 23, 24]
+
+
+def with_faults(faults):
+    """A log and a slot that get 'no' to these questions: log G and its four rows of kind 3."""
+    record_faults = {6: (0, 0x4D), 7: (2, 8), 8: (4, 1), 9: (8, 4)}
+    nines = nines_of(log_of(LOG_G))
+    bad = nines[1]
+    for fault in faults & record_faults.keys():
+        bad = with_byte(bad, *record_faults[fault])
+    nines[1] = bad
+    if 21 in faults:
+        nines.append(bad)
+    if 5 in faults:
+        nines += [record(3, i, i, 9) for i in range(129 - len(nines))]
+    log = b"".join(nines) + (b"L" if 4 in faults else b"")
+    slot = whole_slot(GREATEST, 401 if 24 in faults else 400, [
+        (0, 0, 1, 100), (0, 2, 6, 209 if 23 in faults else 210), (0, 9, 10, 50),
+        (1, 0, 1 if 22 in faults else 0, 7)])
+    # The second row begins at place 23; its first frame is at 26 and its value at 30.
+    slot_faults = {11: (1, 0x53), 12: (2, 5), 13: (3, 65), 14: (23, 0x51), 15: (32, 2), 16: (26, 1),
+                   17: (767, 1)}
+    for fault in faults & slot_faults.keys():
+        slot = with_byte(slot, *slot_faults[fault])
+    return log, slot[:767] if 1 in faults else slot
+
+
+def in_order():
+    """Each question's 'no' alone, and with each later question's: what is due, log and slot. A slot
+    whose kind is wrong is not asked 23."""
+    index = {6: 1, 7: 1, 8: 1, 9: 1, 14: 1, 15: 1, 16: 1, 21: 5}
+    for place, fault in enumerate(CHECK_ORDER):
+        for later in [fault] + CHECK_ORDER[place + 1:]:
+            yield f"no {fault} {index.get(fault, 0)}", *with_faults({fault, later})
+    yield "yes", *with_faults(set())
+    yield "no 1 0", *with_faults(set(CHECK_ORDER))
+
+
+def slot_lengths():
+    """Slots that are too short, and longer ones, whose later bytes are any: due, log, slot."""
+    g, slot = with_faults(set())
+    later = bytes((7 * k + 1) % 256 for k in range(300))
+    for length in (0, 1, 12, 767):
+        yield "no 1 0", g, slot[:length]
+    for length in (1, 2, 11, 300):
+        yield "yes", g, slot + later[:length]
+        yield "no 24 0", g, with_byte(slot, 4, 0) + later[:length]
+    # Rows to the last byte but one, and 65 of them in a longer slot.
+    apart = [(5, 3 * i, 3 * i + 1, i) for i in range(65)]
+    for count, due in ((63, "yes"), (64, "yes"), (65, "no 13 0")):
+        log = log_of(apart[:count])
+        yield due, log, whole_slot(0, 0, apart[:count])
+    yield "no 22 0", log_of(apart), whole_slot(0, 0, apart[:64])
+
+
+def outermost():
+    """The first frame and the last, the greatest values and the greatest errors: due, log, slot."""
+    ends = [(3, 0, 0, 5), (3, 65535, 65535, 6), (4, 65535, 65535, 7), (5, 0, 0, 8)]
+    log = log_of(ends)
+    yield "yes", log, whole_slot(0, 0, ends)
+    for kind in KINDS:
+        yield "yes", log, with_right_error(log, kind, [row[:3] + (1000,) for row in ends])
+    for place, other in ((0, (3, 0, 1, 5)), (1, (3, 65534, 65535, 6)), (0, (3, 1, 1, 5)),
+                         (1, (3, 65534, 65534, 6)), (0, (3, 0, 65534, 5)), (1, (3, 1, 65535, 6)),
+                         (2, (4, 0, 65535, 7)), (3, (5, 0, 65535, 8))):
+        yield "no 22 0", log, whole_slot(0, 0, ends[:place] + [other] + ends[place + 1:])
+    yield "no 22 0", log, whole_slot(0, 0, [(3, 0, 65535, 5)] + ends[2:])
+    # All frames: in one row, in two, and without the first or the last.
+    log = log_of([(6, 0, 65535, 9)])
+    yield "yes", log, whole_slot(0, 0, [(6, 0, 65535, 9)])
+    yield "yes", log, whole_slot(0, 0, [(6, 0, 32767, 9), (6, 32768, 65535, 9)])
+    yield "yes", log, whole_slot(0, 65536, [(6, 0, 65535, 10)])
+    for first, last in ((1, 65535), (0, 65534), (0, 0), (65535, 65535)):
+        yield "no 22 0", log, whole_slot(0, 0, [(6, first, last, 9)])
+    # 128 records of load 1,000 at one frame, and at 2,000 of them.
+    for core in (1, 2000):
+        log = log_of(crowd(128, core=core))
+        rows, error, _ = reduction(segments_of(log, 0), 0, ROWS, 64)
+        assert error == 0 and (7, 11, 10 + core, 128000) in rows
+        yield "yes", log, whole_slot(0, 0, rows)
+        yield "no 24 0", log, whole_slot(1, 0, rows)
+        for value in (0, 127999):
+            other = [row[:3] + (min(row[3], value),) for row in rows]
+            yield "yes", log, with_right_error(log, 0, other)
+            yield "no 24 0", log, whole_slot(0, 0, other)
+        higher = [row[:3] + (128001,) for row in rows]
+        yield "no 15 0", log, whole_slot(0, 0, higher)
+    # The greatest error: all frames of all groups with load 0 in rows of 128,000, one to a group and
+    # eight. It, those beside it, and what 32 bits keep of it.
+    log = log_of([(group, 0, 65535, 0) for group in range(8)])
+    error = 8 * 65536 * 128000 ** 2
+    rows = [(group, 0, 65535, 128000) for group in range(8)]
+    eighths = [(group, 8192 * i, 8192 * i + 8191, 128000) for group in range(8) for i in range(8)]
+    for wrong in (error - 1, error + 1, error % 2 ** 32):
+        yield "no 24 0", log, whole_slot(0, wrong, rows)
+    yield "yes", log, whole_slot(0, error, rows)
+    yield "yes", log, whole_slot(0, error, eighths)
+    yield "yes", log, whole_slot(GREATEST, error, rows)
+    # The value 128,000 in many frames, in one row of 0.
+    log = log_of([(7, i % 12, 65535 - i // 12, 1000) for i in range(128)])
+    yield "yes", log, with_right_error(log, 0, [(7, 0, 65535, 0)])
+    yield "yes", log, with_right_error(log, 0, [(7, 0, 40000, 0), (7, 40001, 65535, 1)])
+    yield "no 24 0", log, whole_slot(0, 65536 * 128000 ** 2, [(7, 0, 65535, 0)])
+
+
+def other_slots():
+    """Slots that no query writes: due, log, slot."""
+    g = log_of(LOG_G)
+    # No record: with no row, with an error, with a row, by windows.
+    for kind in KINDS:
+        yield "yes", b"", whole_slot(kind, 0, [])
+        yield "no 24 0", b"", whole_slot(kind, 1, [])
+        for row in ((0, 0, 0, 0), (7, 65535, 65535, 0)):
+            yield "no 22 0", b"", whole_slot(kind, 0, [row])
+        yield "no 11 0", b"", with_byte(whole_slot(kind, 0, []), 1, 0x53)
+        yield "no 22 0", g, whole_slot(kind, 0, [])
+    # A query's own slot by windows, and its rows under the other header: the beats of G are not its
+    # frames; with scenes that are its runs, the sums over the records that meet them are other ones.
+    for rule in (Beats(4, 0), Scenes([0, 9], [6, 10])):
+        slot = bytes.fromhex(windows_answer(0, rule, g)).ljust(768, b"\0")
+        yield "no 11 0", g, slot
+        yield "no 22 0", g, with_byte(slot, 1, 0x48)
+    runs = Scenes([0, 9], [6, 10])
+    slot = bytes.fromhex(windows_answer(0, runs, g[:36])).ljust(768, b"\0")
+    yield "no 24 0", g[:36], with_byte(slot, 1, 0x48)
+    # One load to a frame: sum, least and greatest are the same; count and mean are not.
+    single = log_of(PROJ)
+    rows = [tuple(row) for row in segments_of(single, 0)]
+    for kind in KINDS:
+        yield "yes" if kind in (0, 2, 3) else "no 24 0", single, whole_slot(kind, 0, rows)
+    # A count of 1 to a frame with load 1, and a mean of 0: other kinds that are right.
+    for load, kinds in ((1, (0, 1, 2, 3)), (0, (0, 2, 3, 4))):
+        log = log_of([(2, 5, 9, load)])
+        for kind in KINDS:
+            yield "yes" if kind in kinds else "no 24 0", log, whole_slot(kind, 0, [(2, 5, 9, load)])
+    # Kind 3 at one frame of many, at its first and its last, one below and one above; and kind 2, of
+    # which rows may be below.
+    for peak in (0, 1, 29, 58, 59):
+        log = log_of([(0, 0, 59, 200), (0, peak, peak, 900)])
+        for value, due in ((899, "no 23 0"), (900, "yes"), (901, "yes"), (128000, "yes")):
+            yield due, log, with_right_error(log, GREATEST, [(0, 0, 59, value)])
+        yield "no 23 0", log, whole_slot(GREATEST, 0, [(0, 0, 59, 0)])
+        yield "yes", log, with_right_error(log, GREATEST, [
+            (0, 0, 29, 900 if peak <= 29 else 200), (0, 30, 59, 200 if peak <= 29 else 900)])
+        yield "no 23 0", log, with_right_error(log, GREATEST, [
+            (0, 0, 29, 200 if peak <= 29 else 900), (0, 30, 59, 900 if peak <= 29 else 200)])
+        for kind in (0, 1, 2, 4):
+            for value in (0, 199, 200, 201):
+                yield "yes", log, with_right_error(log, kind, [(0, 0, 59, value)])
+    # The row that is short is one of several groups, the first or the last.
+    log = log_of([(group, 10, 19, 100 * group + 50) for group in range(8)])
+    rows = [(group, 10, 19, 100 * group + 50) for group in range(8)]
+    for group in range(8):
+        short = rows[:group] + [(group, 10, 19, 100 * group + 49)] + rows[group + 1:]
+        for kind in KINDS:
+            due = {GREATEST: "no 23 0"}.get(kind, "yes")
+            yield due, log, with_right_error(log, kind, short)
+    # Values of before halves went up, and of kind 3 of before: nearest means.
+    half = log_of(frames([0, 1]))
+    for kind in (0, 2):
+        for value in (0, 1):
+            yield "yes", half, whole_slot(kind, 1, [(0, 0, 1, value)])
+    yield "no 23 0", half, whole_slot(GREATEST, 1, [(0, 0, 1, 0)])
+    # 255 segments in 64 rows, and in one.
+    stairs = log_of([(0, i, 255 - i, 1 + i % 7) for i in range(128)])
+    for kind, limit in ((0, 64), (GREATEST, 64), (4, 1)):
+        rows, error, _ = reduction(segments_of(stairs, kind), kind, ROWS, limit)
+        yield "yes", stairs, whole_slot(kind, error, rows)
+        yield "no 24 0", stairs, whole_slot(kind, error + 1, rows)
+
+
+def slots_at_random():
+    """Small logs and slots that fit them, cut and valued at random, half of them then damaged."""
+    numbers = random.Random(8)
+    for _ in range(150):
+        span = numbers.randint(1, 12)
+        base = numbers.choice((0, 0, 100, 65536 - span))
+        records = list(dict.fromkeys(records_at_random(numbers, base, span)))
+        log, kind = log_of(records), numbers.choice(KINDS)
+        rows = []
+        for group, first, last, value in segments_of(log, kind):
+            joins = rows and rows[-1][0] == group and rows[-1][2] + 1 == first
+            if joins and numbers.randrange(3) == 0:
+                rows[-1] = (*rows[-1][:2], last, max(rows[-1][3], value))
+            else:
+                rows.append((group, first, last, value + numbers.choice((0, 0, 0, 1, 7))))
+        slot = with_right_error(log, kind, rows)
+        others = list(moved(rows))
+        if others and numbers.randrange(2) == 0:
+            slot = whole_slot(kind, whole(slot[4:12]), numbers.choice(others))
+        yield None, log, slot
+
+
+def against_logs():
+    """Logs with slots: what is due where it is known by the way the slot was made, log and slot."""
+    for turn, (log, kind, rows, error) in enumerate(as_written()):
+        slot = whole_slot(kind, error, rows)
+        yield "yes", log, slot
+        # In turns with the records in another order, and with an error that is one more.
+        if turn % 3 == 0:
+            yield "yes", b"".join(ORDERS[turn % 5](nines_of(log))), slot
+        elif turn % 3 == 1:
+            yield "no 24 0", log, whole_slot(kind, error + 1, rows)
+        # The many ways to damage a slot, by each kind with another number of rows.
+        if log == log_of(LOG_G) and turn % 5 == kind:
+            for due, other in damaged(log, kind, rows, error):
+                yield due, log, other
+    for log, slot in other_covers():
+        yield "no 22 0", log, slot
+    yield from in_order()
+    yield from slot_lengths()
+    yield from outermost()
+    yield from other_slots()
+    yield from slots_at_random()
+
+
+CHECK_HEAD = """\
+# Slots held to logs, made by tools/expected.py --check. A line is
+#     LOG LENGTH SLOT: ANSWER
+# LOG is bytes in hexadecimal, - if there are none, LENGTH the slot's length in bytes, and SLOT its
+# bytes up to the zeros at its end, - if there are no others. ANSWER is 'yes', or 'no', number and
+# index.
+"""
+
+
+def check_lines():
+    """The lines of the file of slots with their logs, each once."""
+    lines = {}
+    for due, log, slot in against_logs():
+        asked = f"{log.hex() or '-'} {len(slot)} {slot.rstrip(bytes(1)).hex() or '-'}"
+        if asked not in lines:
+            lines[asked] = check_answer(log, slot)
+        assert due in (None, lines[asked]), (asked, due, lines[asked])
+    numbers = [0 if answer == "yes" else int(answer.split()[1]) for answer in lines.values()]
+    assert all(number in numbers for number in [0] + CHECK_ORDER)
+    return [f"{asked}: {answer}\n" for asked, answer in lines.items()]
+
+
 def check_halves():
     """With the lower number at a half, the same cases are refused, and the others have the same
     error, the same cuts weighed and rows of the same frames. A value is one less at a half, and
@@ -1329,6 +1737,16 @@ def check_known():
     assert without_twins(b"", 0) == b"" and without_twins(g + d, 53) == ("no", 1, 0)
     assert without_twins(g + d + record(0, 4, 3, 7), 63) == ("no", 8, 6)
     assert all(without_twins(ANY_BYTE + other, 18) == ANY_BYTE + other for other in one_byte_off())
+    # A slot against its log: G's four rows, an error beside theirs, a row of kind 3 one below.
+    four = [(0, 0, 1, 100), (0, 2, 6, 242), (0, 9, 10, 50), (1, 0, 0, 7)]
+    assert check_answer(g, whole_slot(0, 11280, four)) == "yes"
+    assert check_answer(g, whole_slot(0, 11279, four)) == "no 24 0"
+    assert check_answer(g, whole_slot(0, 0, four[:3])) == "no 22 0"
+    assert check_answer(g, whole_slot(0, 2 ** 64 - 1, four)[:767]) == "no 1 0"
+    for value, error, answer in ((210, 400, "yes"), (211, 485, "yes"), (209, 325, "no 23 0")):
+        rows = [four[0], (0, 2, 6, value), *four[2:]]
+        assert check_answer(g, whole_slot(GREATEST, error, rows)) == answer
+        assert check_answer(g[9:] + g[:9], whole_slot(GREATEST, error, rows)) == answer
     # The published reductions: first and last frames are the same, and a row value is the whole
     # number nearest to the published mean, of which 467.5 is one.
     assert profile(case(0, ROWS, 4, log_of(PROJ))).split("\n")[1:5] == [
@@ -1365,6 +1783,7 @@ def main(words):
     listed = {
         "--windows": (WINDOWS_HEAD, windows_lines, "queries by windows"),
         "--twins": (TWINS_HEAD, twins_lines, "logs on file"),
+        "--check": (CHECK_HEAD, check_lines, "slots with their logs"),
     }
     if len(words) == 2 and words[0] in listed:
         head, lines_of, name = listed[words[0]]

@@ -3,7 +3,7 @@
 
 mod cases;
 
-use cases::{bytes, frames};
+use cases::{bytes, every_order, frames, lines, no};
 use pacer::{Kind, Query, Reduction, Refusal, Rule, Scene, Segment};
 use pacer::{RECORDS, RECORD_BYTES, SEGMENT_PLACES, SLOT_BYTES};
 
@@ -91,13 +91,7 @@ fn case(line: &str) -> Case {
         _ => panic!("{line}"),
     };
     let answer = match answer.split_once(' ') {
-        Some(("no", numbers)) => {
-            let (question, index) = numbers.split_once(' ').unwrap();
-            Err(Refusal {
-                question: question.parse().unwrap(),
-                index: index.parse().unwrap(),
-            })
-        }
+        Some(("no", _)) => Err(no(answer).unwrap()),
         _ if call == Call::Segments => Ok(Given::Segments(list(answer))),
         Some((weighed, slot)) => Ok(slot_of(weighed.parse().unwrap(), slot)),
         None => Ok(slot_of(0, answer)),
@@ -137,10 +131,6 @@ fn slot_of(weighed: u64, word: &str) -> Given {
         weighed,
     };
     Given::Slot(reduction, slot)
-}
-
-fn lines(file: &'static str) -> Vec<&'static str> {
-    file.lines().filter(|line| !line.starts_with('#')).collect()
 }
 
 fn sorted(log: &[u8]) -> Vec<&[u8]> {
@@ -184,18 +174,6 @@ fn as_worked_out() {
     assert_eq!(refused[10] + refused[20], refused.iter().sum::<usize>());
 }
 
-/// Puts the records of a log in every order.
-fn every_order(records: &mut Vec<Vec<u8>>, fixed: usize, visit: &mut dyn FnMut(&[u8])) {
-    if fixed == records.len() {
-        visit(&records.concat());
-    }
-    for place in fixed..records.len() {
-        records.swap(fixed, place);
-        every_order(records, fixed + 1, visit);
-        records.swap(fixed, place);
-    }
-}
-
 /// Log G in all of the 120 orders of its five records.
 #[test]
 fn every_order_of_log_g() {
@@ -207,11 +185,10 @@ fn every_order_of_log_g() {
         [(1, 0), (4, 0), (3, 2), (65_535, 6)].map(|(length, start)| Call::Every(length, start)),
     );
     let mut orders = 0;
-    let mut records: Vec<Vec<u8>> = g.chunks(RECORD_BYTES).map(<[u8]>::to_vec).collect();
     for call in &calls {
         for kind in (0..=4).map(Kind) {
             let expected = call.ask(kind, g, 0xA5);
-            every_order(&mut records, 0, &mut |log| {
+            every_order(g, &mut |log| {
                 assert_eq!(
                     call.ask(kind, log, 0x3C),
                     expected,

@@ -3,7 +3,7 @@
 
 mod cases;
 
-use cases::bytes;
+use cases::{bytes, lines, no};
 use pacer::{Kind, Query, Record, Refusal, Row, Rule, Scene, Segment};
 use pacer::{RECORDS, RECORD_BYTES, SEGMENT_PLACES, SLOT_BYTES};
 
@@ -93,17 +93,12 @@ fn refusal(question: u8, index: usize) -> Refusal {
 fn as_worked_out() {
     let mut counted = [0; 10];
     let mut shortened = 0;
-    let lines = include_str!("twins.cases").lines();
-    for line in lines.filter(|line| !line.starts_with('#')) {
+    for line in lines(include_str!("twins.cases")) {
         let (words, answer) = line.split_once(": ").unwrap();
         let (log, room) = words.split_once(' ').unwrap();
         let (log, room) = (bytes(log), room.parse().unwrap());
-        let (expected, after) = match answer.strip_prefix("no ") {
-            Some(numbers) => {
-                let (question, index) = numbers.split_once(' ').unwrap();
-                let no = refusal(question.parse().unwrap(), index.parse().unwrap());
-                (Err(no), noise(room))
-            }
+        let (expected, after) = match no(answer) {
+            Some(no) => (Err(no), noise(room)),
             None => {
                 let (length, after) = answer.split_once(' ').unwrap();
                 (Ok(length.parse().unwrap()), bytes(after))

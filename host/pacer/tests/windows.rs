@@ -2,7 +2,7 @@
 
 mod cases;
 
-use cases::{bytes, frames};
+use cases::{bytes, frames, lines, no};
 use pacer::c;
 use pacer::{Bound, Header, Kind, Query, Record, Refusal, Row, Rule, Scene, Walker};
 use pacer::{ROWS, SCENES, SLOT_BYTES};
@@ -72,8 +72,7 @@ fn noise() -> Vec<u8> {
 #[test]
 fn as_worked_out() {
     let mut counted = [0; 22];
-    let lines = include_str!("windows.cases").lines();
-    for line in lines.filter(|line| !line.starts_with('#')) {
+    for line in lines(include_str!("windows.cases")) {
         let (asked, answer) = line.split_once(": ").unwrap();
         let words: Vec<&str> = asked.split(' ').collect();
         let [rule, kind, one, two, log] = words[..] else {
@@ -81,11 +80,8 @@ fn as_worked_out() {
         };
         let (kind, log) = (kind.parse().unwrap(), bytes(log));
         let mut expected = noise();
-        let numbers = match answer.strip_prefix("no ") {
-            Some(numbers) => {
-                let (question, index) = numbers.split_once(' ').unwrap();
-                (question.parse().unwrap(), index.parse().unwrap(), 0)
-            }
+        let numbers = match no(answer) {
+            Some(no) => (no.question, no.index, 0),
             None => {
                 let used = bytes(answer);
                 expected[..SLOT_BYTES].fill(0);

@@ -1,7 +1,23 @@
-//! What the tests share that read a file of cases.
+//! What the tests share that read a file of cases or put a log in every order.
 
 // A test need not use all of it.
 #![allow(dead_code)]
+
+use pacer::{Refusal, RECORD_BYTES};
+
+/// The lines of a file of cases.
+pub fn lines(file: &'static str) -> Vec<&'static str> {
+    file.lines().filter(|line| !line.starts_with('#')).collect()
+}
+
+/// The refusal of an answer in the file of cases, none if it is no refusal.
+pub fn no(answer: &str) -> Option<Refusal> {
+    let (question, index) = answer.strip_prefix("no ")?.split_once(' ')?;
+    Some(Refusal {
+        question: question.parse().unwrap(),
+        index: index.parse().unwrap(),
+    })
+}
 
 /// Bytes in the file of cases.
 pub fn bytes(word: &str) -> Vec<u8> {
@@ -23,4 +39,20 @@ pub fn frames(word: &str) -> Vec<u16> {
     word.split(',')
         .map(|frame| frame.parse().unwrap())
         .collect()
+}
+
+/// Puts the records of a log in every order.
+pub fn every_order(log: &[u8], visit: &mut dyn FnMut(&[u8])) {
+    fn go(records: &mut [&[u8]], fixed: usize, visit: &mut dyn FnMut(&[u8])) {
+        if fixed == records.len() {
+            visit(&records.concat());
+        }
+        for place in fixed..records.len() {
+            records.swap(fixed, place);
+            go(records, fixed + 1, visit);
+            records.swap(fixed, place);
+        }
+    }
+    let mut records: Vec<&[u8]> = log.chunks(RECORD_BYTES).collect();
+    go(&mut records, 0, visit);
 }
