@@ -1,5 +1,6 @@
 //! One case: all calls of the proved library against the independent implementation.
 
+use crate::check::{self, Checked};
 use crate::inputs;
 use crate::order::{self, Ask, Shuffled};
 use crate::random::Random;
@@ -10,7 +11,7 @@ use reference::{Contents, Half, No, Reduction, Stretch};
 use std::fmt::Debug;
 
 /// How often each question was the first 'no', and at place 0 how often there was none.
-pub type ByQuestion = [u64; 22];
+pub type ByQuestion = [u64; 25];
 
 /// What was answered, over all calls.
 #[derive(Clone, Default)]
@@ -46,6 +47,8 @@ pub struct Seen {
     pub most_weighed: u64,
     /// Logs in another order.
     pub order: Shuffled,
+    /// Slots held to their logs.
+    pub checked: Checked,
 }
 
 impl Seen {
@@ -81,6 +84,7 @@ impl Seen {
         self.most_rows = self.most_rows.max(other.most_rows);
         self.most_weighed = self.most_weighed.max(other.most_weighed);
         self.order.join(&other.order);
+        self.checked.join(&other.checked);
     }
 }
 
@@ -170,7 +174,7 @@ pub fn run(random: &mut Random, seen: &mut Seen) -> Result<(), String> {
         .map_err(|why| format!("kind {kind}, rule {rule:#x}, bound {bound}: {why}"))?;
     let passes = kind <= reference::MOST_KIND && reference::ask_log(&log).is_ok();
     if passes && random.beside().percent(10) {
-        order::ends(random, kind, &log, &mut seen.order)?;
+        order::ends(random, kind, &log, &mut seen.order, &mut seen.checked)?;
     }
 
     // The slot as the query left it; then that slot, or one that no query wrote, with some bytes
@@ -188,6 +192,7 @@ pub fn run(random: &mut Random, seen: &mut Seen) -> Result<(), String> {
     };
     inputs::damage_slot(random, &mut other);
     slot_calls(random, &other, seen)?;
+    check::any(&log, &other, &mut seen.checked)?;
     if kind <= reference::MOST_KIND && reference::bounded(rule, bound) {
         halves(random, kind, &expected, rule, bound, seen)?;
     }
@@ -365,6 +370,7 @@ fn query(
     let ask = Ask::Bound(rule, bound);
     let answer = ask.library(kind, log, &mut slot);
     order::query(random, kind, ask, log, (answer, &slot), &mut seen.order)?;
+    check::written(random, ask, log, (answer, &slot), 3, &mut seen.checked)?;
     let expected = reference::query(kind, rule, bound, log, slot.len());
     let (question, index) = number(&expected);
     seen.query[usize::from(question)] += 1;

@@ -1,5 +1,6 @@
 //! Demand 3 for the proved library, against every fitting list of a small log.
 
+use crate::check::{self, Checked};
 use crate::compare::{same, stretches};
 use crate::inputs::{self, Fields};
 use crate::order::{self, Ask, Shuffled};
@@ -17,6 +18,8 @@ pub struct Tried {
     pub halves: [u64; 5],
     /// Logs in another order.
     pub order: Shuffled,
+    /// Slots held to their logs.
+    pub checked: Checked,
 }
 
 impl Tried {
@@ -27,6 +30,7 @@ impl Tried {
             *a += b;
         }
         self.order.join(&other.order);
+        self.checked.join(&other.checked);
     }
 }
 
@@ -54,6 +58,7 @@ fn outcome(
     };
     let answer = order::answer_of(found);
     order::query(random, kind, ask, log, (answer, &slot), &mut tried.order)?;
+    check::written(random, ask, log, (answer, &slot), 1, &mut tried.checked)?;
     Ok(found
         .and_then(|_| pacer::read(&slot))
         .map(|profile| (stretches(&profile), profile.error()))
@@ -175,6 +180,7 @@ pub fn run_small(random: &mut Random, tried: &mut Tried) -> Result<(), String> {
         assert_eq!(brute::least_by_lists(&frames, kind), least, "{records:?}");
     }
     let context = |why| format!("records {records:?}, kind {kind}: {why}");
+    check::lists(random, kind, &log, &frames, numbers, &mut tried.checked).map_err(context)?;
     for c in 0..=frames.len() as u16 + 1 {
         let rows = limit(random, kind, c, &log, &frames, &least, tried)
             .map_err(|why| context(format!("limit {c}: {why}")))?;

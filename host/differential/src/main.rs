@@ -7,12 +7,14 @@
 //! frames, for every row count the slots with one bit of the tail set, fixed logs with windows at
 //! the edges of what is allowed, as many small logs as above by windows gone through frame by
 //! frame, and long logs with twins at every two places. Every log that is run through a query or
-//! the segment call is run again with its records in another order. The seed is fixed unless one is
-//! given, and is printed. A difference is printed with the words that run its case alone, and the
-//! status is then 1.
+//! the segment call is run again with its records in another order, and every slot that a query
+//! writes is held to its log, as it is and made otherwise. The seed is fixed unless one is given, and
+//! is printed. A difference is printed with the words that run its case alone, and the status is
+//! then 1.
 
 #![forbid(unsafe_code)]
 
+mod check;
 mod compare;
 mod demand;
 mod inputs;
@@ -22,6 +24,7 @@ mod tails;
 mod twins;
 mod windows;
 
+use check::Checked;
 use compare::{ByQuestion, Seen};
 use demand::Tried;
 use order::{Met, Shuffled};
@@ -106,6 +109,14 @@ impl Counts {
         let mut all = self.seen.order;
         all.join(&self.tried.order);
         all.join(&self.gone.order);
+        all
+    }
+
+    /// The slots that were held to their logs, whichever calls wrote them.
+    fn checked(&self) -> Checked {
+        let mut all = self.seen.checked;
+        all.join(&self.tried.checked);
+        all.join(&self.gone.checked);
         all
     }
 }
@@ -286,6 +297,40 @@ fn unreached_in_order(part: Part, order: &Shuffled) -> Vec<String> {
     }
 }
 
+/// What the slots of a part, held to their logs, got too rarely; `cases` is how many cases it had.
+fn unreached_in_check(part: Part, cases: u64, checked: &Checked) -> Vec<String> {
+    use check::Met::*;
+    // Of each in every hundred cases at least one.
+    let often = cases / 100;
+    let by_bound = [
+        Written, Reordered, Finer, Otherwise, Cover, Error, WrongSlot, WrongLog,
+    ];
+    match part {
+        Part::Random => [
+            checked.missing(&by_bound, often),
+            checked.missing(&[OtherwiseReordered, Below, Short, ByWindows], often),
+            checked.missing_kinds(&[0, 1, 2, 3, 4]),
+        ]
+        .concat(),
+        Part::Small => [
+            checked.missing(&by_bound, often),
+            checked.missing(&[OtherwiseReordered, Below, List, ListBelow], often),
+            checked.missing_kinds(&[0, 1, 2, 3, 4]),
+        ]
+        .concat(),
+        // There are no logs of counts among them.
+        Part::Many => [
+            checked.missing(&by_bound, often),
+            checked.missing_kinds(&[0, 2, 3, 4]),
+        ]
+        .concat(),
+        Part::Edges => checked.missing(&[ByWindows, Cover, Otherwise], 100),
+        Part::Frames => checked.missing(&[ByWindows, Cover, Error, Otherwise], often),
+        // Slots alone have no log, and logs with twins no slot.
+        Part::Tails | Part::Twins => Vec::new(),
+    }
+}
+
 /// Prints what was refused for twins, and what was kept of logs on file.
 fn print_twins(seen: &Seen) {
     println!(
@@ -462,11 +507,13 @@ fn main() -> ExitCode {
                 }
             }
         }
-        // Slots alone have no order.
+        // Slots alone have no order and no log.
         if part != Part::Tails {
-            let order = counts.order();
+            let (order, checked) = (counts.order(), counts.checked());
             order.print();
-            let missing = unreached_in_order(part, &order);
+            checked.print();
+            let mut missing = unreached_in_order(part, &order);
+            missing.extend(unreached_in_check(part, cases, &checked));
             if (part != Part::Random || cases >= CASES) && !missing.is_empty() {
                 println!("no case gave: {}", missing.join(", "));
                 return ExitCode::FAILURE;

@@ -1,6 +1,7 @@
 //! Any order of the log: every log that a part runs is run again with the same records in another
 //! order. The library has to give the same answer and the same bytes for it.
 
+use crate::check::{self, Checked};
 use crate::compare::{number, same, same_places};
 use crate::random::Random;
 use crate::windows::Windows;
@@ -177,7 +178,7 @@ pub fn answer_of(outcome: Result<pacer::Reduction, pacer::Refusal>) -> c::QueryA
 /// The same records in other orders, each with its name: always at random, and of every tenth log
 /// also from the last to the first, by their bytes, and with the first ones put behind the others.
 /// None where the log has one order alone. Bytes behind the last whole record stay where they are.
-fn orders(random: &mut Random, log: &[u8]) -> Vec<(&'static str, Vec<u8>)> {
+pub fn orders(random: &mut Random, log: &[u8]) -> Vec<(&'static str, Vec<u8>)> {
     let (whole, rest) = log.split_at(log.len() - log.len() % RECORD_BYTES);
     let records: Vec<&[u8]> = whole.chunks_exact(RECORD_BYTES).collect();
     if records.iter().all(|record| *record == records[0]) {
@@ -397,7 +398,14 @@ pub fn segments(
 
 /// Both ends of the reduction of a log that passes its questions: the fewest rows and one below
 /// them, as many as there are segments or as a slot holds, and the least and the greatest shares.
-pub fn ends(random: &Random, kind: u8, log: &[u8], counts: &mut Shuffled) -> Result<(), String> {
+/// What is written there is held to the log too.
+pub fn ends(
+    random: &Random,
+    kind: u8,
+    log: &[u8],
+    counts: &mut Shuffled,
+    checked: &mut Checked,
+) -> Result<(), String> {
     let (segments, runs) = segments_and_runs(kind, log);
     let limits = [runs, runs.wrapping_sub(1), segments, pacer::ROWS];
     let bounds = limits
@@ -410,6 +418,7 @@ pub fn ends(random: &Random, kind: u8, log: &[u8], counts: &mut Shuffled) -> Res
         let mut slot = [0xEE; SLOT_BYTES];
         let answer = ask.library(kind, log, &mut slot);
         query(random, kind, ask, log, (answer, &slot), counts)
+            .and_then(|()| check::written(random, ask, log, (answer, &slot), 1, checked))
             .map_err(|why| format!("kind {kind}, rule {rule:#x}, bound {bound}: {why}"))?;
     }
     Ok(())

@@ -1,5 +1,6 @@
 //! Queries by windows: beats and scenes, against the independent implementation.
 
+use crate::check::{self, Checked};
 use crate::compare::{number, same, same_places, slot_calls, stretches, Seen};
 use crate::inputs::{self, Fields};
 use crate::order::{self, Ask, Shuffled};
@@ -86,6 +87,7 @@ fn query(
     let ask = Ask::Windows(windows);
     let answer = ask.library(kind, log, &mut slot);
     order::query(random, kind, ask, log, (answer, &slot), &mut seen.order)?;
+    check::written(random, ask, log, (answer, &slot), 0, &mut seen.checked)?;
     let expected = windows.reference(kind, log, length);
     let (question, index) = number(&expected);
     match windows {
@@ -354,6 +356,8 @@ pub struct Gone {
     pub rows: u64,
     /// Logs in another order.
     pub order: Shuffled,
+    /// Slots held to their logs.
+    pub checked: Checked,
 }
 
 impl Gone {
@@ -361,6 +365,7 @@ impl Gone {
         self.queries += other.queries;
         self.rows += other.rows;
         self.order.join(&other.order);
+        self.checked.join(&other.checked);
     }
 }
 
@@ -378,6 +383,7 @@ fn hold(
     let ask = Ask::Windows(windows);
     let answer = ask.library(kind, log, &mut slot);
     order::query(random, kind, ask, log, (answer, &slot), &mut gone.order)?;
+    check::written(random, ask, log, (answer, &slot), 0, &mut gone.checked)?;
     let question = if expected.len() > 64 { 20 } else { 0 };
     same("question", answer.question, question)?;
     if question == 0 {

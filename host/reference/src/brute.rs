@@ -92,33 +92,45 @@ fn keep_least(place: &mut Option<u64>, error: u64) {
     }
 }
 
-/// The least error of the fitting lists of exactly k rows, at place k: every cutting with every
-/// combination of numbers. For very few frames.
-pub fn least_by_lists(frames: &[Frame], kind: u8) -> Vec<Option<u64>> {
+/// A row by the places of its first frame and of the frame after its last, and its number.
+pub type Part = (usize, usize, i64);
+
+/// Visits the fitting lists with their errors: every cutting with every combination of numbers. For
+/// very few frames.
+pub fn each_list(frames: &[Frame], kind: u8, visit: &mut dyn FnMut(&[Part], u64)) {
     fn go(
         (frames, kind): (&[Frame], u8),
         start: usize,
-        rows: usize,
+        list: &mut Vec<Part>,
         error: u64,
-        least: &mut [Option<u64>],
+        visit: &mut dyn FnMut(&[Part], u64),
     ) {
         if start == frames.len() {
-            keep_least(&mut least[rows], error);
+            visit(list, error);
             return;
         }
         for end in start + 1..=frames.len() {
             let row = &frames[start..end];
             for number in candidates(row, kind) {
                 let error = error + row_error(row, number);
-                go((frames, kind), end, rows + 1, error, least);
+                list.push((start, end, number));
+                go((frames, kind), end, list, error, visit);
+                list.pop();
             }
             if end < frames.len() && !joined(frames, end - 1) {
                 break;
             }
         }
     }
+    go((frames, kind), 0, &mut Vec::new(), 0, visit);
+}
+
+/// The least error of the fitting lists of exactly k rows, at place k, by going through all lists.
+pub fn least_by_lists(frames: &[Frame], kind: u8) -> Vec<Option<u64>> {
     let mut least = vec![None; frames.len() + 1];
-    go((frames, kind), 0, 0, 0, &mut least);
+    each_list(frames, kind, &mut |list, error| {
+        keep_least(&mut least[list.len()], error);
+    });
     least
 }
 
