@@ -1,5 +1,5 @@
 /* Log G through the C interface: write_record, without_twins, segments, query, query_beats,
- * query_scenes, read, read_rows, row_at and lookup; and in every order of its records.
+ * query_scenes, read, read_rows, row_at, lookup and check; and in every order of its records.
  *
  * Every answer is checked against the numbers that the paper prints for log G, or against what its
  * rules give for it by hand, and every byte lent against the paper's layout. Prints one line,
@@ -63,6 +63,14 @@ static void kept_at(int line, struct pacer_log_answer found, struct pacer_log_an
     same_at(line, "length", found.length, expected.length);
 }
 #define KEPT(found, ...) kept_at(__LINE__, found, (struct pacer_log_answer){__VA_ARGS__})
+
+/* Compares the answer of check, field by field. */
+static void checked_at(int line, struct pacer_check_answer found, uint8_t question, size_t index)
+{
+    same_at(line, "question of check", found.question, question);
+    same_at(line, "index of check", found.index, index);
+}
+#define CHECKED(found, question, index) checked_at(__LINE__, found, question, index)
 
 /* Log G: group, first, last, load. */
 static const uint16_t log_g[5][4] = {
@@ -522,6 +530,10 @@ static void every_call(int line, const uint8_t *log, size_t length, uint8_t ques
         if (question != 0) {
             answer_at(line, a, (struct pacer_query_answer){question, index, 0, 0, 0});
             bytes_at(line, "slot", slot, before, sizeof slot);
+            checked_at(line, pacer_check(log, length, slot_g, sizeof slot_g), question, index);
+        } else {
+            /* A slot by a bound passes with its log, and one by windows does not. */
+            checked_at(line, pacer_check(log, length, slot, sizeof slot), call < 2 ? 0 : 11, 0);
         }
     }
 
@@ -843,6 +855,156 @@ static void test_orders(const uint8_t *log)
     }
 }
 
+/* A slot against its log. Slots that queries write pass with theirs; a byte of one makes each of the
+ * questions fail.
+ */
+static void test_check(const uint8_t *log)
+{
+    static uint8_t slot[PACER_SLOT_BYTES + 32], before[PACER_SLOT_BYTES + 32];
+    uint8_t damaged[54], ordered[45];
+
+    /* All kinds and bounds, in every order of the records; an error one above is 24. */
+    static const struct {
+        uint8_t rule;
+        uint16_t bound;
+    } bounds[] = {
+        {PACER_ROWS, 3},  {PACER_ROWS, 4},  {PACER_ROWS, 5},    {PACER_ROWS, 6},
+        {PACER_ROWS, 64}, {PACER_SHARE, 0}, {PACER_SHARE, 281}, {PACER_SHARE, 1000},
+    };
+    for (uint8_t kind = PACER_SUM; kind <= PACER_MEAN; kind++) {
+        for (size_t i = 0; i < sizeof bounds / sizeof bounds[0]; i++) {
+            const struct pacer_query_answer a =
+                pacer_query(kind, bounds[i].rule, bounds[i].bound, log, 45, slot, sizeof slot);
+            SAME(a.question, 0);
+            memcpy(before, slot, sizeof slot);
+            for (size_t order = 0; order < 120; order++) {
+                order_records(log, order, ordered);
+                CHECKED(pacer_check(ordered, 45, slot, sizeof slot), 0, 0);
+            }
+            BYTES(slot, before, sizeof slot);
+            slot[4]++;
+            CHECKED(pacer_check(log, 45, slot, sizeof slot), 24, 0);
+
+            /* As many rows do no better. */
+            const struct pacer_query_answer best =
+                pacer_query(kind, PACER_ROWS, (uint16_t)a.rows, log, 45, slot, sizeof slot);
+            SAME(best.question, 0);
+            SAME(best.rows <= a.rows, 1);
+            SAME(best.error <= a.error, 1);
+        }
+    }
+
+    /* The worked case with one byte damaged: frames, groups, values, the error and the kind. The rows
+     * begin at 12, 23, 34 and 45.
+     */
+    static const struct {
+        size_t byte;
+        uint8_t content;
+        uint8_t question;
+        size_t index;
+    } cases[] = {
+        {15, 1, 22, 0},    {17, 0, 22, 0},   {28, 5, 22, 0},    {28, 7, 22, 0},    {28, 8, 22, 0},
+        {37, 8, 22, 0},    {37, 10, 22, 0},  {39, 9, 22, 0},    {39, 11, 22, 0},   {47, 2, 22, 0},
+        {50, 1, 22, 0},    {51, 1, 22, 0},   {19, 0x65, 24, 0}, {19, 0x63, 24, 0}, {30, 0xF1, 24, 0},
+        {30, 0xF3, 24, 0}, {52, 6, 24, 0},   {4, 0x0F, 24, 0},  {4, 0x11, 24, 0},  {11, 0x80, 24, 0},
+        {2, 1, 24, 0},     {2, 2, 24, 0},    {2, 3, 24, 0},     {2, 4, 24, 0},     {2, 5, 12, 0},
+        {3, 65, 13, 0},    {3, 3, 17, 0},    {3, 5, 14, 4},     {23, 0x51, 14, 1}, {25, 8, 15, 1},
+        {26, 1, 16, 1},    {767, 1, 17, 0},  {0, 0x4C, 11, 0},  {1, 0x43, 11, 0},  {1, 0x53, 11, 0},
+    };
+    memcpy(slot, slot_g, sizeof slot_g);
+    CHECKED(pacer_check(log, 45, slot, PACER_SLOT_BYTES), 0, 0);
+    for (size_t i = 0; i < sizeof cases / sizeof cases[0]; i++) {
+        const uint8_t kept = slot[cases[i].byte];
+        slot[cases[i].byte] = cases[i].content;
+        CHECKED(pacer_check(log, 45, slot, sizeof slot), cases[i].question, cases[i].index);
+        slot[cases[i].byte] = kept;
+    }
+
+    /* One above 242, the mean of five frames, has an error of 5 more. */
+    slot[30] = 0xF3;
+    slot[4] = 0x15;
+    CHECKED(pacer_check(log, 45, slot, sizeof slot), 0, 0);
+    slot[30] = 0xF2;
+    slot[4] = 0x10;
+
+    /* Frames 2 to 6 cut in two rows of the same value. */
+    memmove(slot + 34, slot + 23, 33);
+    slot[3] = 5;
+    slot[28] = 3;
+    slot[37] = 4;
+    CHECKED(pacer_check(log, 45, slot, sizeof slot), 0, 0);
+    slot[28] = 2;
+    CHECKED(pacer_check(log, 45, slot, sizeof slot), 22, 0);
+    slot[28] = 4;
+    CHECKED(pacer_check(log, 45, slot, sizeof slot), 16, 2);
+
+    /* Kind 3, four rows, the second one 210 with the error 400: 209 is short of frame 6, whatever the
+     * error is, and 211 is not.
+     */
+    ANSWER(pacer_query(PACER_GREATEST, PACER_ROWS, 4, log, 45, slot, PACER_SLOT_BYTES), 0, 0, 4, 400, 10);
+    slot[30] = 209;
+    CHECKED(pacer_check(log, 45, slot, PACER_SLOT_BYTES), 23, 0);
+    slot[4] = 325 - 256;
+    CHECKED(pacer_check(log, 45, slot, PACER_SLOT_BYTES), 23, 0);
+    slot[2] = PACER_LEAST;
+    CHECKED(pacer_check(log, 45, slot, PACER_SLOT_BYTES), 24, 0);
+    slot[2] = PACER_GREATEST;
+    slot[30] = 211;
+    CHECKED(pacer_check(log, 45, slot, PACER_SLOT_BYTES), 24, 0);
+    slot[4] = 485 - 256;
+    CHECKED(pacer_check(log, 45, slot, PACER_SLOT_BYTES), 0, 0);
+    slot[50] = 1;
+    slot[30] = 209;
+    CHECKED(pacer_check(log, 45, slot, PACER_SLOT_BYTES), 22, 0);
+
+    /* By windows. */
+    CHECKED(pacer_check(log, 45, beats_slot_g, sizeof beats_slot_g), 11, 0);
+
+    /* The questions in order: 1, then the log's, then the slot's. */
+    memcpy(damaged, log, 45);
+    memcpy(damaged + 45, log, 9);
+    CHECKED(pacer_check(damaged, 53, beats_slot_g, 767), 1, 0);
+    CHECKED(pacer_check(damaged, 53, beats_slot_g, sizeof beats_slot_g), 4, 0);
+    CHECKED(pacer_check(damaged, 54, beats_slot_g, sizeof beats_slot_g), 21, 5);
+    damaged[2 * 9 + 2] = 8;
+    CHECKED(pacer_check(damaged, 54, beats_slot_g, sizeof beats_slot_g), 7, 2);
+    CHECKED(pacer_check(damaged, 18, beats_slot_g, sizeof beats_slot_g), 11, 0);
+    CHECKED(pacer_check(damaged, 18, slot_g, sizeof slot_g), 22, 0);
+
+    /* The empty log: with no row it passes, with an error or with rows it does not. */
+    fill(slot, sizeof slot);
+    ANSWER(pacer_query(PACER_COUNT, PACER_ROWS, 0, log, 0, slot, sizeof slot), 0, 0, 0, 0, 0);
+    CHECKED(pacer_check(log, 0, slot, sizeof slot), 0, 0);
+    CHECKED(pacer_check(log, 45, slot, sizeof slot), 22, 0);
+    CHECKED(pacer_check(log, 0, slot_g, sizeof slot_g), 22, 0);
+    slot[11] = 1;
+    CHECKED(pacer_check(log, 0, slot, sizeof slot), 24, 0);
+
+    /* A slot and its log may lie over each other: here the log is the end of a longer slot. */
+    uint8_t both[PACER_SLOT_BYTES + 45];
+    memcpy(both, slot_g, sizeof slot_g);
+    memcpy(both + PACER_SLOT_BYTES, log, 45);
+    CHECKED(pacer_check(both + PACER_SLOT_BYTES, 45, both, sizeof both), 0, 0);
+    CHECKED(pacer_check(both, PACER_SLOT_BYTES, both, sizeof both), 4, 0);
+
+    /* All frames of all groups with load 0 in rows of 128,000: the greatest error that there is,
+     * 8,589,934,592,000,000.
+     */
+    uint8_t everywhere[8 * 9], *error = slot + 4;
+    memset(slot, 0, sizeof slot);
+    memcpy(slot, (uint8_t[]){0x50, 0x48, PACER_SUM, 8}, 4);
+    for (uint8_t group = 0; group < 8; group++) {
+        SAME(pacer_write_record(group, 0, 65535, 0, everywhere + 9 * group, 9).question, 0);
+        memcpy(slot + 12 + 11 * group,
+               (uint8_t[]){0x50, 0x52, group, 0, 0, 0xFF, 0xFF, 0x00, 0xF4, 0x01, 0x00}, 11);
+    }
+    for (uint64_t most = UINT64_C(8589934592000000), wrong = 0; wrong < 2; wrong++) {
+        for (size_t i = 0; i < 8; i++)
+            error[i] = (uint8_t)((most + wrong) >> (8 * i));
+        CHECKED(pacer_check(everywhere, sizeof everywhere, slot, sizeof slot), wrong ? 24 : 0, 0);
+    }
+}
+
 static void test_read(uint8_t *slot, size_t length)
 {
     struct pacer_read_answer a = pacer_read(slot, length);
@@ -1004,6 +1166,7 @@ int main(void)
     test_twins(log);
     test_without_twins(log);
     test_orders(log);
+    test_check(log);
     test_read(slot, sizeof slot);
     test_read_rows(slot, sizeof slot);
     test_row_at(slot, sizeof slot);

@@ -86,6 +86,7 @@ CALL(read, pacer_read(slot, sizeof slot))
 CALL(read_rows, pacer_read_rows(slot, sizeof slot, row_list, PACER_ROW_PLACES))
 CALL(row_at, pacer_row_at(slot, sizeof slot, number))
 CALL(lookup, pacer_lookup(slot, sizeof slot, 0, (uint16_t)number))
+CALL(check, pacer_check(log_bytes, log_length, slot, sizeof slot))
 
 /* A number that looks random. */
 static unsigned noise(unsigned i)
@@ -298,6 +299,48 @@ static void make_slot(int by_windows)
         query();
 }
 
+/* Slots of one row and of 64 held to logs of 1, 6 and 255 segments in all kinds, and to the empty one;
+ * and refusals by questions 6, 11, 17, 21 and 22 to 24.
+ */
+static size_t check_need(void)
+{
+    static const unsigned sizes[] = {1, 6, 255};
+    size_t needed = 0;
+    rule = PACER_ROWS;
+    for (size_t i = 0; i < sizeof sizes / sizeof sizes[0]; i++) {
+        make_log(sizes[i]);
+        for (kind = PACER_SUM; kind <= PACER_MEAN; kind++) {
+            for (bound = 1; bound <= 64; bound += 63) {
+                query();
+                most(&needed, check, 0);
+                slot[4]++;
+                most(&needed, check, 24);
+            }
+        }
+    }
+    kind = PACER_GREATEST;
+    bound = 1;
+    query();
+    /* The value and the last frame of the first row. */
+    slot[19]--;
+    most(&needed, check, 23);
+    slot[17]--;
+    most(&needed, check, 22);
+    slot[PACER_SLOT_BYTES - 1]++;
+    most(&needed, check, 17);
+    slot[1] = PACER_BY_WINDOWS;
+    most(&needed, check, 11);
+    log_bytes[0]++;
+    most(&needed, check, 6);
+    log_bytes[0]--;
+    make_twin();
+    most(&needed, check, 21);
+    log_length = 0;
+    query();
+    most(&needed, check, 0);
+    return needed;
+}
+
 int main(void)
 {
     size_t needed;
@@ -317,6 +360,7 @@ int main(void)
 
     row("pacer_segments", segments_need(), PACER_SEGMENTS_STACK);
     row("pacer_without_twins", without_twins_need(), PACER_SLOT_STACK);
+    row("pacer_check", check_need(), PACER_CHECK_STACK);
 
     needed = 0;
     most(&needed, write_record, 0);
