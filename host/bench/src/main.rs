@@ -723,6 +723,73 @@ fn slot_lines(report: &mut Report, by: &str, slot: &[u8; 768]) {
     }
 }
 
+/// The segment counts of logs that slots are held to.
+const CHECKED_SIZES: [usize; 3] = [6, 60, 255];
+
+/// A slot against its log, which is answered by a question, 0 if it passes.
+fn check_line(report: &mut Report, shape: &Shape, log: &[u8], slot: &[u8; 768], question: u8) {
+    let n = count_segments(log, shape.kind);
+    let answer = c::check(log, slot);
+    let expected = plain::check(black_box(log), slot);
+    assert_eq!((answer.question, answer.index), expected, "{}", shape.name);
+    assert_eq!(answer.question, question, "{}", shape.name);
+    let outcome = match question {
+        0 => "yes".to_string(),
+        _ => format!("no {question}"),
+    };
+    let input = || black_box((log, slot));
+    report.line(
+        &format!("check, {}", shape.name),
+        &format!("{n:>4} {:>4} {outcome:>6}", slot[3]),
+        &mut [
+            &mut || {
+                let (log, slot) = input();
+                black_box(c::check(log, slot));
+            },
+            &mut || {
+                let (log, slot) = input();
+                black_box(plain::check(log, slot));
+            },
+        ],
+    );
+}
+
+/// Slots that a query wrote against their logs, of few rows and of many, and refusals of the last
+/// row for its last frame and its value, and of the error.
+fn check_lines(report: &mut Report) {
+    for shape in SHAPES.iter().chain(&FEW_SHAPES) {
+        let sizes: &[usize] = if shape.name.starts_with("few") {
+            &FEW_SIZES
+        } else {
+            &CHECKED_SIZES
+        };
+        for wanted in sizes {
+            let log = (shape.log)(*wanted);
+            let mut written = [0; 768];
+            for limit in [1, 64] {
+                let mut slot = [0; 768];
+                let refused = c::query(shape.kind, c::ROWS, limit, &log, &mut slot).question != 0;
+                if !refused && slot != written {
+                    check_line(report, shape, &log, &slot, 0);
+                    written = slot;
+                }
+            }
+        }
+    }
+    let shape = &SHAPES[4];
+    assert_eq!(shape.kind, Kind::GREATEST.0);
+    let log = (shape.log)(255);
+    let mut slot = [0; 768];
+    let answer = c::query(shape.kind, c::ROWS, 64, &log, &mut slot);
+    // The last row's last frame and value, and the error, each one less.
+    let at = 12 + 11 * (answer.rows - 1);
+    for (byte, question) in [(at + 5, 22), (at + 7, 23), (4, 24)] {
+        let mut damaged = slot;
+        damaged[byte] -= 1;
+        check_line(report, shape, &log, &damaged, question);
+    }
+}
+
 /// The smallest of some shares that 64 rows meet.
 fn share_met(log: &[u8], kind: u8) -> Option<u16> {
     let mut slot = [0; 768];
@@ -749,7 +816,8 @@ fn main() {
     println!("Answers, slot bytes and weighed cuts are compared first and are equal. A limit below the count");
     println!("of runs, which is refused, has no row. Rows by windows have one plain version, which goes from");
     println!("window to window over those that no record meets; 'no 20' is the refusal of more than 64 rows.");
-    println!("Only logs of 'without_twins', the call for logs on file, hold equal records.");
+    println!("Only logs of 'without_twins', the call for logs on file, hold equal records. A slot is held to its");
+    println!("log ('check') by one plain version, which finds the segments and walks rows and segments together.");
     println!("A row named 'shuffled' has the records of the row without that word in another order, and the");
     println!("same answer.");
 
@@ -838,6 +906,15 @@ fn main() {
         ..in_order
     };
     windows_line(&mut report, &spans, Kind::SUM);
+
+    head("n rows answer", 1);
+    check_lines(&mut report);
+    let in_order = random(128);
+    let log = shuffled(&in_order);
+    let mut slot = [0; 768];
+    c::query(SHUFFLED.kind, c::ROWS, 64, &in_order, &mut slot);
+    assert_eq!(c::check(&in_order, &slot), c::check(&log, &slot));
+    check_line(&mut report, &SHUFFLED, &log, &slot, 0);
 
     head("rows", 1);
     let sizes = [0, 6, 20, 64];

@@ -3,7 +3,7 @@
 //! Segments are found from event to event, the split table is filled with incremental block
 //! totals and left early, and the same questions are asked. The table has the paper's 64 times
 //! 256 entries, all 'no cut' at first. Equal records are found by comparing a record, as one
-//! number, with all before it.
+//! number, with all before it. A slot is held to its log by walking rows and segments together.
 //!
 //! There are two versions of the query. They differ in where a block's error comes from: [`Anew`]
 //! works it out whenever a candidate asks for it, [`Kept`] works each out once per query.
@@ -564,4 +564,65 @@ pub fn lookup(slot: &[u8], group: u8, frame: u16) -> (u8, usize, Option<u32>) {
         .find(|row| row[2] == group && two(row, 3) <= frame && frame <= two(row, 5))
         .map(|row| u32::from_le_bytes([row[7], row[8], row[9], row[10]]));
     (0, 0, value)
+}
+
+/// A slot against its log: question and index.
+pub fn check(log: &[u8], slot: &[u8]) -> No {
+    match try_check(log, slot) {
+        Ok(()) => (0, 0),
+        Err(no) => no,
+    }
+}
+
+fn try_check(log: &[u8], slot: &[u8]) -> Result<(), No> {
+    let front = slot.first_chunk::<768>().ok_or((1, 0))?;
+    ask_log(log)?;
+    if front[1] == BY_WINDOWS {
+        return Err((11, 0));
+    }
+    let (slot, rows) = ask_slot(front)?;
+    let kind = slot[2];
+    let mut list = [Segment::default(); 255];
+    let n = find_segments(log, kind, &mut list);
+
+    // A frame with its group above it.
+    let place = |group: u8, frame: u16| u32::from(group) << 17 | u32::from(frame);
+    let mut segments = list[..n].iter();
+    let mut rows = rows.chunks_exact(11);
+    let (mut segment, mut row) = (segments.next(), rows.next());
+    // Where the rest of the segment begins, and of the row, if the walk has gone into it.
+    let (mut in_segment, mut in_row) = (None, None);
+    let (mut error, mut below) = (0, false);
+    while let (Some(s), Some(r)) = (segment, row) {
+        let from = in_segment.unwrap_or(place(s.group, s.first));
+        if from != in_row.unwrap_or(place(r[2], two(r, 3))) {
+            return Err((22, 0));
+        }
+        let (last, row_last) = (place(s.group, s.last), place(r[2], two(r, 5)));
+        let to = last.min(row_last);
+        let value = u32::from_le_bytes([r[7], r[8], r[9], r[10]]);
+        let apart = u64::from(s.value.abs_diff(value));
+        error += u64::from(to - from + 1) * apart * apart;
+        below |= value < s.value;
+        if to == last {
+            (segment, in_segment) = (segments.next(), None);
+        } else {
+            in_segment = Some(to + 1);
+        }
+        if to == row_last {
+            (row, in_row) = (rows.next(), None);
+        } else {
+            in_row = Some(to + 1);
+        }
+    }
+    if segment.is_some() || row.is_some() {
+        return Err((22, 0));
+    }
+    if kind == GREATEST && below {
+        return Err((23, 0));
+    }
+    if slot[4..12] != error.to_le_bytes() {
+        return Err((24, 0));
+    }
+    Ok(())
 }
