@@ -1359,7 +1359,7 @@ def damaged(log, kind, rows, error):
 def other_covers():
     """Log G with rows over other frames than it covers, all with error 0: a row more, in the gap, at
     its ends, over all of it, past the end of the records, in a group without records; a row that is
-    short of a frame at each end; a row across the gap."""
+    short of a frame at each end; a row across the gap. And rows apart within a segment."""
     g = log_of(LOG_G)
     rows = [tuple(row) for row in segments_of(g, 0)]
     for more in ((0, 7, 7, 0), (0, 8, 8, 0), (0, 7, 8, 0), (0, 11, 11, 50), (0, 65535, 65535, 0),
@@ -1373,6 +1373,13 @@ def other_covers():
         yield g, whole_slot(0, 0, rows[:place] + [other] + rows[place + 1:])
     yield g, whole_slot(0, 0, rows[:3] + [(0, 6, 10, 210)] + rows[5:])
     yield g, whole_slot(0, 0, [])
+    # Frames within a segment that lie between two rows: one, and all but the first and the last.
+    long = log_of([(4, 10, 29, 5), (4, 30, 39, 6), (5, 10, 29, 7)])
+    for last, first in ((10, 12), (15, 17), (27, 29), (10, 29), (28, 30), (29, 31), (30, 32)):
+        yield long, whole_slot(2, 0, [(4, 10, last, 5), (4, first, 39, 6), (5, 10, 29, 7)])
+    for last, first in ((10, 12), (15, 17), (27, 29), (10, 29)):
+        yield long, whole_slot(2, 0, [(4, 10, 29, 5), (4, 30, 39, 6), (5, 10, last, 7),
+                                      (5, first, 29, 7)])
     # The log of one group and the rows of another; the log without its last record, and one more.
     yield g, whole_slot(0, 0, [(row[0] + 1, *row[1:]) for row in rows])
     yield g[:36], whole_slot(0, 0, rows)

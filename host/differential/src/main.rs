@@ -326,8 +326,10 @@ fn unreached_in_check(part: Part, cases: u64, checked: &Checked) -> Vec<String> 
         .concat(),
         Part::Edges => checked.missing(&[ByWindows, Cover, Otherwise], 100),
         Part::Frames => checked.missing(&[ByWindows, Cover, Error, Otherwise], often),
-        // Slots alone have no log, and logs with twins no slot.
-        Part::Tails | Part::Twins => Vec::new(),
+        // Two logs with twins at every two places.
+        Part::Twins => checked.missing(&[WrongLog], PLACES * (PLACES - 1)),
+        // Slots alone have no log.
+        Part::Tails => Vec::new(),
     }
 }
 

@@ -1,6 +1,7 @@
 //! Twins: the call for logs on file on any log, and logs of 128 records with twins at every two
 //! places.
 
+use crate::check;
 use crate::compare::{number, same, same_places, Seen};
 use crate::inputs::{self, Fields};
 use crate::order::{self, Ask};
@@ -152,6 +153,7 @@ fn with_twin(random: &mut Random, log: &[u8], later: usize, seen: &mut Seen) -> 
     let no = refused(random, kind, Ask::Windows(&scenes), log, &before, seen)?;
     same("by scenes", no, twin)?;
     seen.scenes[21] += 1;
+    check::any(log, &before, &mut seen.checked)?;
     let kept = file(random, log, log.len(), seen)?.ok_or("a log without bad records is refused")?;
     let without = [&log[..9 * later], &log[9 * later + 9..]].concat();
     same_places("what is kept", &kept, &without)?;
