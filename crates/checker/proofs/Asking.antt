@@ -1,8 +1,8 @@
--- The questions of a slot against its log in parts: 1, the log's, the slot's, and 22 to 24. Assumes nothing.
+-- The questions of a slot against its log in parts: 1, the log's and the slot's, and 22 to 24. Assumes nothing.
 use Prim.Native.Nat.{ℕ, _≤_, _<_}
 use mathlib.Core.Bool.{Bool, true, false, _&&_, not, cond}
-use mathlib.Core.List.{List, [], _∷_, _++_}
-use mathlib.Core.Path.{_≡_, refl, sym, _∙_}
+use mathlib.Core.List.{List, [], _∷_, _++_, append-assoc}
+use mathlib.Core.Path.{_≡_, refl, sym, ap, _∙_}
 use borrow.Author.Tests.{le-leb, lt-leb}
 use lib.Dec.{eqb}
 use lib.ListN.{length}
@@ -13,7 +13,7 @@ use Rattle.model.specs.Slot.{slotLength, byBound, slotKind, slotError, slotRows
 use Rattle.model.specs.Questions.{Question, refused, accepted, ask, askRoom, outcome, marked, logQuestions, slotQuestions}
 use Rattle.model.specs.Check.{againstQuestions, boundedQuestions, checkQuestions, checkOutcome}
 use Rattle.model.specs.Demands.{AllPass}
-use Rattle.theory.proofs.Refusals.{all-head, outcome-accepted, refused-first, passed-first}
+use Rattle.theory.proofs.Refusals.{all-head, all-left, all-right, all-outcome, outcome-accepted, refused-first, passed-first}
 use Rattle.theory.proofs.Check.{bound-marked}
 use Rattle.theory.proofs.Asking.{answer}
 use Rattle.theory.proofs.Tests.{cases}
@@ -42,14 +42,11 @@ pub marked-slot : (slot : List ℕ) → 768 ≤ length slot → marked slot 0 0x
 unfolding slotQuestions boundedQuestions outcome askRoom ask slotLength
 marked-slot slot long mark = rw (le-leb 768 (length slot) long, bound-marked slot mark, mark)
 
--- so that a slot that passes passes what every slot is asked
-pub slot-passed : (slot : List ℕ) → 768 ≤ length slot → answer (boundedQuestions slot) ≡ accepted tt → AllPass (slotQuestions slot)
-unfolding boundedQuestions ask
-slot-passed slot long e =
-    let mark = all-head _ _ (outcome-accepted (boundedQuestions slot) tt tt e .0) in
-    outcome-accepted (slotQuestions slot) tt tt (marked-slot slot long mark ∙ e) .0
-
 module _ (log slot : List ℕ) where
+  -- the log's and the slot's, and those behind
+  abbrev pub own : List Question
+  own = logQuestions log ++ boundedQuestions slot
+
   abbrev against : List Question
   against = againstQuestions (slotKind slot) (slotError slot) (slotRows slot) (value (slotKind slot) (records log))
 
@@ -59,22 +56,23 @@ module _ (log slot : List ℕ) where
   short-slot short = rw (lt-leb 768 (length slot) short)
 
   module _ (long : 768 ≤ length slot) where
-    behind-room : checkOutcome log slot ≡ answer (logQuestions log ++ (boundedQuestions slot ++ against))
+    behind-room : checkOutcome log slot ≡ answer (own ++ against)
     unfolding checkOutcome checkQuestions outcome askRoom ask slotLength
-    behind-room = rw (le-leb 768 (length slot) long)
+    behind-room =
+        rw (le-leb 768 (length slot) long) (ap (λ qs. answer qs) (sym (append-assoc (logQuestions log) (boundedQuestions slot) against)))
 
-    -- the log's
-    pub refused-log : (n i : ℕ) → answer (logQuestions log) ≡ refused n i → checkOutcome log slot ≡ refused n i
-    refused-log n i e = behind-room ∙ refused-first (logQuestions log) (boundedQuestions slot ++ against) tt tt n i e
+    pub refused-own : (n i : ℕ) → answer own ≡ refused n i → checkOutcome log slot ≡ refused n i
+    refused-own n i e = behind-room ∙ refused-first own against tt tt n i e
 
-    module _ (logged : answer (logQuestions log) ≡ accepted tt) where
-      behind-log : checkOutcome log slot ≡ answer (boundedQuestions slot ++ against)
-      behind-log = behind-room ∙ passed-first (logQuestions log) (boundedQuestions slot ++ against) tt tt logged
+    pub behind-own : answer own ≡ accepted tt → checkOutcome log slot ≡ answer against
+    behind-own e = behind-room ∙ passed-first own against tt tt e
 
-      -- the slot's
-      pub refused-slot : (n i : ℕ) → answer (boundedQuestions slot) ≡ refused n i → checkOutcome log slot ≡ refused n i
-      refused-slot n i e = behind-log ∙ refused-first (boundedQuestions slot) against tt tt n i e
-
-      -- and those behind
-      pub behind-slot : answer (boundedQuestions slot) ≡ accepted tt → checkOutcome log slot ≡ answer against
-      behind-slot e = behind-log ∙ passed-first (boundedQuestions slot) against tt tt e
+    -- a log and a slot that have passed pass what every log and every slot is asked
+    pub own-passed : answer own ≡ accepted tt → AllPass (logQuestions log) × AllPass (slotQuestions slot)
+    unfolding boundedQuestions ask
+    own-passed e =
+        let all = outcome-accepted own tt tt e .0 in
+        let bounded = all-right (logQuestions log) (boundedQuestions slot) all in (
+          all-left (logQuestions log) (boundedQuestions slot) all,
+          outcome-accepted (slotQuestions slot) tt tt (marked-slot slot long (all-head _ _ bounded) ∙ all-outcome (boundedQuestions slot) tt bounded) .0,
+        )

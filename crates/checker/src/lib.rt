@@ -9,13 +9,13 @@ use model::GREATEST_KIND;
 use model::SLOT_LENGTH;
 ghost use mathlib.Core.Path.{_≡_};
 ghost use mathlib.Core.Bool.{true, cond};
-ghost use mathlib.Core.List.{[], _∷_};
+ghost use mathlib.Core.List.{List, [], _∷_, _++_};
 ghost use Prim.Native.Nat.{_≤_};
 ghost use lib.Dec.{eqb};
 ghost use lib.ListN.{length};
 ghost use Rattle.model.specs.Log.{records, greatestKind, value};
 ghost use Rattle.model.specs.Slot.{byBound, slotKind, slotError, slotRows};
-ghost use Rattle.model.specs.Questions.{ask, outcome, marked, logQuestions, slotQuestions};
+ghost use Rattle.model.specs.Questions.{Question, ask, outcome, marked, logQuestions, slotQuestions};
 ghost use Rattle.model.specs.Calls.{askedCase};
 ghost use Rattle.model.specs.Check.{againstQuestions, boundedQuestions, checkOutcome};
 ghost use Rattle.model.specs.Demands.{AllPass, CheckPromise};
@@ -74,6 +74,16 @@ fn ask_against(log: &[u8], slot: &[u8]) -> Asked
     ask_found(kind, eight(slot, 4), found)
 }
 
+// What two lists of questions answer, one behind the other.
+fn then(first: Asked, second: Asked) -> Asked
+    ensures { λ r. ⌜ ((ps qs : List Question) → askedCase first ≡ outcome ps tt → askedCase second ≡ outcome qs tt → askedCase r ≡ outcome (ps ++ qs) tt) ⌝ }
+{
+    match first {
+        Asked::Refused(r) => Asked::Refused(r),
+        Asked::Passed => second,
+    }
+}
+
 // Asks whether a slot agrees with its log.
 pub fn check(log: &[u8], slot: &[u8]) -> Asked
     ensures says { λ r. ⌜ askedCase r ≡ checkOutcome (now (log .entry)) (now (slot .entry)) ⌝ }
@@ -83,14 +93,10 @@ pub fn check(log: &[u8], slot: &[u8]) -> Asked
         return no(1, 0);
     }
     let logged = log::ask(log);
-    match logged {
+    let bounded = ask_bounded(slot);
+    let asked = then(logged, bounded);
+    match asked {
         Asked::Refused(r) => Asked::Refused(r),
-        Asked::Passed => {
-            let bounded = ask_bounded(slot);
-            match bounded {
-                Asked::Refused(r) => Asked::Refused(r),
-                Asked::Passed => ask_against(log, slot),
-            }
-        }
+        Asked::Passed => ask_against(log, slot),
     }
 }

@@ -181,7 +181,7 @@ module _ (log slot : List ℕ) where
   against = againstQuestions (slotKind slot) (slotError slot) (slotRows slot) (value (slotKind slot) (records log))
 
   -- all questions are passed exactly if the log's, the slot's with the mark of a bound, and 22 to 24 are
-  in-parts : AllPass (checkQuestions log slot)
+  pub in-parts : AllPass (checkQuestions log slot)
       → AllPass (logQuestions log) × AllPass (slotQuestions slot) × (slotMark slot ≡ byBound) × AllPass against
   unfolding checkQuestions boundedQuestions slotQuestions ask marked slotMark
   in-parts all =

@@ -44,3 +44,4 @@ pub mod RefutedCalls
 pub mod RefutedWindows
 pub mod RefutedTwins
 pub mod RefutedOrder
+pub mod RefutedCheck

@@ -40,17 +40,17 @@ abbrev log-tie : List (Span ℕ)
 log-tie = span 0 0 0 0 ∷ span 0 1 1 1 ∷ span 0 2 2 0 ∷ []
 
 -- the list fits the log, of kind 0, with this squared error
-abbrev Fit : List (Span ℕ) → ℕ → List (Span ℕ) → Type 0
+abbrev pub Fit : List (Span ℕ) → ℕ → List (Span ℕ) → Type 0
 Fit log error rows = FitsFor 0 (value 0 log) (map whole rows) × (squaredError (value 0 log) (map whole rows) ≡ error)
 
 -- as a page shows
-abbrev OnPage : List (Span ℕ) → ℕ → List (Span ℕ) → Type 0
+abbrev pub OnPage : List (Span ℕ) → ℕ → List (Span ℕ) → Type 0
 OnPage log error rows =
     (leb (horizon log) frameCount ≡ true) × (onPage groupCount (horizon log) (map whole rows) ≡ true)
     × (exactOn (value 0 log) groupCount (horizon log) (map whole rows) ≡ true)
     × (overFrames groupCount (horizon log) (λ g f. frameCost squared (value 0 log g f) (valueIn (map whole rows) g f)) ≡ error)
 
-fit : (log : List (Span ℕ)) (error : ℕ) (rows : List (Span ℕ)) → OnPage log error rows → Fit log error rows
+pub fit : (log : List (Span ℕ)) (error : ℕ) (rows : List (Span ℕ)) → OnPage log error rows → Fit log error rows
 fit log error rows (short, on, exact, sums) = (
   record {
     covers = page-fits (value 0 log) groupCount (horizon log) (value-on-page 0 log) (map whole rows) on exact;
@@ -79,7 +79,7 @@ pages = (
   (refl, refl, refl, refl),
 )
 
-abbrev val-G : ℕ → ℕ → Option ℕ
+abbrev pub val-G : ℕ → ℕ → Option ℕ
 val-G = value 0 log-G
 
 -- the lists of rows that fit G, by a kind
@@ -92,7 +92,7 @@ lists-G = lists-of 0
 runs-fit : Fit log-G 40087 runs-G
 runs-fit = fit log-G 40087 runs-G (pages .0)
 
-four-fit : Fit log-G 11280 rows-G
+pub four-fit : Fit log-G 11280 rows-G
 four-fit = fit log-G 11280 rows-G (pages .1)
 
 segments-fit : Fit log-G 0 segments-G
@@ -311,7 +311,7 @@ said-of-a-share says =
 
 -- the slots of G's four rows, of the same rows with another error, of one row per run, and of its five rows; and a slot of
 -- zeros
-readings : Reads (slotBytes byBound 0 11280 rows-G) byBound 0 11280 rows-G
+pub readings : Reads (slotBytes byBound 0 11280 rows-G) byBound 0 11280 rows-G
     × Reads (slotBytes byBound 0 11281 rows-G) byBound 0 11281 rows-G
     × Reads (slotBytes byBound 0 40087 runs-G) byBound 0 40087 runs-G
     × Reads (slotBytes byBound 0 67 five-G) byBound 0 67 five-G
@@ -326,7 +326,7 @@ readings = (
 )
 
 -- a slot is read to one mark, one kind, one error and one list of rows
-one-reading : (slot : List ℕ) (mark mark′ kind kind′ error error′ : ℕ) (rows rows′ : List (Span ℕ))
+pub one-reading : (slot : List ℕ) (mark mark′ kind kind′ error error′ : ℕ) (rows rows′ : List (Span ℕ))
     → Reads slot mark kind error rows → Reads slot mark′ kind′ error′ rows′
     → (mark ≡ mark′) × (kind ≡ kind′) × (error ≡ error′) × (rows ≡ rows′)
 one-reading slot mark mark′ kind kind′ error error′ rows rows′ a b =

@@ -31,10 +31,10 @@ use Rattle.theory.proofs.RefutedCalls.{refused-number}
 use Rattle.theory.proofs.Order.{any-order}
 use Rattle.theory.proofs.Demands.{demand2}
 
-abbrev log : List ℕ
+abbrev pub log : List ℕ
 log = bytes (a ∷ b ∷ [])
 
-abbrev other : List ℕ
+abbrev pub other : List ℕ
 other = bytes (b ∷ a ∷ [])
 
 -- a log of the same length, with a record of other frames

@@ -1,6 +1,7 @@
 -- `checker::ask_found` meets its contract: each test is the question's, and the first that fails refuses. Assumes nothing.
-use mathlib.Core.Bool.{true, false, cond}
+use mathlib.Core.Bool.{true, false, not, cond}
 use mathlib.Core.Path.{_≡_, ap, _∙_}
+use native.Mathlib.Omega.{arith}
 use borrow.Author.Needs.{needs}
 use borrow.Author.Tests.{not-true, not-false, eq-eqb, ne-eqb}
 use lib.Dec.{eqb}
@@ -30,10 +31,10 @@ no-requires-2 c κs = search needs
 
 -- 23 is asked of kind 3
 short : (c : tie.Then2) → let a = c .before .before .before .before .args in cond (eqb (a .kind) greatestKind) (a .found .reaches) true ≡ false
-short c = let a = c .before .before .before .before .args in asked-of (eqb (a .kind) greatestKind) (a .found .reaches) ∙ rw (c .if2 .taken)
+short c = let a = c .before .before .before .before .args in asked-of (eqb (a .kind) greatestKind) (a .found .reaches) ∙ ap not (c .if2 .taken)
 
 enough : (c : tie.Else2) → let a = c .before .before .before .before .args in cond (eqb (a .kind) greatestKind) (a .found .reaches) true ≡ true
-enough c = let a = c .before .before .before .before .args in asked-of (eqb (a .kind) greatestKind) (a .found .reaches) ∙ rw (c .if2 .left)
+enough c = let a = c .before .before .before .before .args in asked-of (eqb (a .kind) greatestKind) (a .found .reaches) ∙ ap not (c .if2 .left)
 
 returns-2 : tie.Need-returns-2
 unfolding outcome ask askedCase
@@ -48,14 +49,14 @@ returns-3 c =
     let t = c .before in
     let e = t .before .before in
     let a = e .before .before .before .before .args in
-    rw (alike (e .before .before), enough e, ne-eqb (a .error) (a .found .error) (t .if3 .taken)) (ap askedCase (c .no3 .ensures))
+    rw (alike (e .before .before), enough e, ne-eqb (a .error) (a .found .error) (λ same. omega (arith, t .if3 .taken))) (ap askedCase (c .no3 .ensures))
 
 returns-4 : tie.Need-returns-4
 unfolding outcome ask askedCase
 returns-4 c =
     let e = c .before .before in
     let a = e .before .before .before .before .args in
-    rw (alike (e .before .before), enough e, eq-eqb (a .error) (a .found .error) (c .if3 .left))
+    rw (alike (e .before .before), enough e, eq-eqb (a .error) (a .found .error) (omega (arith, c .if3 .left)))
 
 pub ask-found-spec : {M : Type 1} → statement M
 ask-found-spec =
