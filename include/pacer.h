@@ -83,7 +83,7 @@ enum {
     PACER_QUERY_STACK = 300 * 1024,       /* any by a bound: 48 KB to 64 segments, 96 KB to 128 */
     PACER_WINDOWS_STACK = 10 * 1024,      /* a query by beats or scenes */
     PACER_SEGMENTS_STACK = 10 * 1024,
-    PACER_CHECK_STACK = 12 * 1024,        /* a slot against its log */
+    PACER_CHECK_STACK = 10 * 1024,        /* a slot against its log */
     PACER_SLOT_STACK = 3 * 1024           /* every other call */
 };
 

@@ -1,27 +1,25 @@
 -- Where the walk begins, and what it has found where it ends. Assumes nothing.
-use Prim.Native.Nat.{ℕ, zero, suc, _+_, _*_, _-_, _≤_, _<_, max, zero-le}
+use Prim.Native.Nat.{ℕ, suc, _+_, _-_, _≤_, _<_, max, zero-le}
 use mathlib.Core.Bool.{Bool, true, false, _&&_, and-false}
 use mathlib.Core.List.{List, [], _∷_, map, List·Memᴰ}
 use mathlib.Core.Logic.{inl, inr}
-use mathlib.Core.Option.{Option, none, some}
-use mathlib.Core.Path.{_≡_, refl, sym, ap, _∙_, subst}
+use mathlib.Core.Option.{Option}
+use mathlib.Core.Path.{_≡_, refl, sym, _∙_}
 use native.Mathlib.Nat.{le-refl, sub-zero}
 use native.Mathlib.Omega.{arith}
-use lib.Dec.{leb, ltb, eqb}
+use lib.Dec.{ltb, eqb}
 use borrow.Author.Tests.{ltb-true, ltb-false, eq-eqb, ne-eqb}
 use Rattle.model.specs.Common.{sumOf, listFrom}
-use Rattle.model.specs.Spans.{Span, groupCount, frameCount, spanLength, holds}
+use Rattle.model.specs.Spans.{Span, groupCount, frameCount}
 use Rattle.model.specs.Log.{value}
 use Rattle.model.specs.Segments.{segments}
-use Rattle.model.specs.Slot.{valueIn}
 use Rattle.model.specs.Fitting.{hits, due, squaredError, whole}
 use Rattle.model.specs.Check.{sameCover, neverBelow}
-use Rattle.model.specs.Questions.{mostValue}
-use Rattle.model.specs.Room.{Measured, mostError, mostFrames}
+use Rattle.model.specs.Room.{Measured}
 use Rattle.slot.specs.Places.{placeOf}
 use Rattle.theory.proofs.Tests.{cases, true≢false, is-false, true-holds}
-use Rattle.theory.proofs.Lists.{listFrom-left, none-left, all-left}
-use Rattle.theory.proofs.Frames.{Heads, Chain, From, Piece, hits-sum, segmentation}
+use Rattle.theory.proofs.Lists.{listFrom-left, none-left}
+use Rattle.theory.proofs.Frames.{Heads, From, hits-sum, segmentation}
 use Rattle.theory.proofs.Converse.{listFrom-member}
 use Rattle.theory.proofs.InOrder.{InOrder, once, behind-free}
 use Rattle.theory.proofs.Stored.{Held}

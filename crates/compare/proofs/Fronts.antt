@@ -1,11 +1,11 @@
 -- What is left of spans in order from a place on, and what is taken off at the front: a weight that adds up where a span is cut in two is
 -- that of the front and of what is left. Assumes nothing.
-use Prim.Native.Nat.{ℕ, zero, suc, _+_, _*_, _-_, _≤_, _<_, max}
-use mathlib.Core.Bool.{Bool, true, false, cond}
+use Prim.Native.Nat.{ℕ, suc, _+_, _*_, _-_, _≤_, _<_, max}
+use mathlib.Core.Bool.{false, cond}
 use mathlib.Core.List.{List, [], _∷_}
 use mathlib.Core.Logic.{inl, inr}
-use mathlib.Core.Option.{Option, none, some}
-use mathlib.Core.Path.{_≡_, refl, sym, ap, _∙_}
+use mathlib.Core.Option.{Option}
+use mathlib.Core.Path.{_≡_, refl, ap, _∙_}
 use native.Mathlib.Omega.{arith}
 use lib.Dec.{eqb}
 use borrow.Author.Tests.{eqb-true, eqb-false}
@@ -15,7 +15,7 @@ use Rattle.model.specs.Fitting.{overFrames}
 use Rattle.slot.specs.Places.{placeOf}
 use Rattle.theory.proofs.Tests.{cases}
 use Rattle.theory.proofs.Sums.{overFrames-cong, overFrames-add}
-use Rattle.theory.proofs.Frames.{Heads, heads-map, worth, holds-joined, Piece, Earlier}
+use Rattle.theory.proofs.Frames.{Heads, worth, holds-joined, Piece, Earlier}
 use Rattle.theory.proofs.Converse.{piece-weigh}
 use Rattle.theory.proofs.InOrder.{InOrder}
 

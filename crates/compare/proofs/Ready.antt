@@ -1,7 +1,6 @@
 -- What a slot and segments have that pass their questions: both are in order, and can be held. Assumes nothing.
 use Prim.Native.Nat.{ℕ}
 use mathlib.Core.List.{List, List·Memᴰ}
-use mathlib.Core.Path.{_≡_}
 use borrow.Author.Tests.{eqb-true}
 use lib.Dec.{eqb}
 use Rattle.model.specs.Spans.{Span, groupCount, frameCount, nowhere}

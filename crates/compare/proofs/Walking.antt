@@ -1,9 +1,9 @@
 -- Rows and segments walked together: what is so of the walk at every turn, and that a turn keeps it. Assumes nothing.
-use Prim.Native.Nat.{ℕ, zero, suc, _+_, _*_, _-_, _≤_, _<_, min, max}
-use mathlib.Core.Bool.{Bool, true, false, _&&_, cond, and-true, and-false}
-use mathlib.Core.List.{List, [], _∷_, List·Memᴰ}
-use mathlib.Core.Option.{Option, none, some}
-use mathlib.Core.Path.{_≡_, refl, sym, ap, _∙_, subst}
+use Prim.Native.Nat.{ℕ, suc, _+_, _*_, _-_, _≤_, _<_, min, max}
+use mathlib.Core.Bool.{Bool, _&&_, cond, and-true, and-false}
+use mathlib.Core.List.{List, _∷_, List·Memᴰ}
+use mathlib.Core.Option.{Option}
+use mathlib.Core.Path.{_≡_, sym, _∙_}
 use native.Mathlib.Nat.{le-refl}
 use native.Mathlib.Numerals.{add-one}
 use native.Mathlib.Omega.{arith}
@@ -11,7 +11,7 @@ use lib.Dec.{leb, eqb}
 use lib.IntN.{pos}
 use borrow.Author.Tests.{eqb-false, ne-eqb}
 use Rattle.model.specs.Common.{sumOf, listFrom}
-use Rattle.model.specs.Spans.{Span, groupCount, frameCount, spanLength, holds}
+use Rattle.model.specs.Spans.{Span, frameCount, spanLength, holds}
 use Rattle.model.specs.Blocks.{squared}
 use Rattle.model.specs.Questions.{mostValue}
 use Rattle.model.specs.Room.{mostError}

@@ -4,7 +4,6 @@ use Prim.Native.Nat.{ℕ}
 use mathlib.Core.List.{List, map}
 use mathlib.Core.Path.{_≡_, sym, ap, _∙_, subst}
 use native.Mathlib.Omega.{arith}
-use Rattle.model.specs.Spans.{Span}
 use Rattle.model.specs.Log.{greatestKind, value}
 use Rattle.model.specs.Slot.{byBound, byWindows}
 use Rattle.model.specs.Questions.{refused, accepted}

@@ -11,6 +11,7 @@ use lib.ListN.{getD}
 use Rattle.model.specs.Common.{numberAt}
 use Rattle.model.specs.Slot.{slotRow}
 use Rattle.model.specs.Questions.{marked, follows, inOrder}
+use Rattle.theory.proofs.InOrder.{two-small}
 use Rattle.theory.proofs.Tests.{cases}
 use Rattle.slot.specs.Places.{placeOf, leastPlace}
 
@@ -40,10 +41,6 @@ places g f h l small-f small-l =
     (λ q. rw q (sym (lt-leb (placeOf h l + 1) (placeOf g f) (omega (arith, ltb-false, eqb-false g h q)))))))
 
 module _ (slot : List ℕ) (small : (i : ℕ) → getD slot i 0 < 256) where
-  two-small : (i : ℕ) → numberAt 2 slot i < 65536
-  unfolding numberAt
-  two-small i = omega (arith, small i, small (suc i))
-
   -- a row is in order if it does not begin before the least place at which it may
   pub in-order : (i : ℕ) → inOrder slot i ≡ leb (leastPlace slot i) (placeOf (slotRow slot i .group) (slotRow slot i .first))
   unfolding inOrder leastPlace follows slotRow
@@ -51,4 +48,4 @@ module _ (slot : List ℕ) (small : (i : ℕ) → getD slot i 0 < 256) where
   in-order (suc i) =
       let r = slotRow slot (suc i) in
       let previous = slotRow slot i in
-      places (r .group) (r .first) (previous .group) (previous .last) (two-small _) (two-small _)
+      places (r .group) (r .first) (previous .group) (previous .last) (two-small slot small _) (two-small slot small _)

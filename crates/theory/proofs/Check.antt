@@ -1,26 +1,26 @@
 -- A slot against its log: it is accepted exactly if its rows fit the log for its kind, with its error as their squared error; whatever
 -- fits passes; and any order of the log gives the same answer. Assumes nothing.
-use Prim.Native.Nat.{ℕ, suc, _≤_, _<_}
+use Prim.Native.Nat.{ℕ, _≤_, _<_}
 use mathlib.Core.Bool.{Bool, true, false, _&&_, _||_, and-false}
 use mathlib.Core.List.{List, [], _∷_, _++_, map, List·Memᴰ, List·Memᴰ·head, List·Memᴰ·tail, List·Memᴰ·cases-cons, List·Memᴰ·not-nil}
-use mathlib.Core.Logic.{_↔_, ⊎-elim}
+use mathlib.Core.Logic.{⊎-elim}
 use mathlib.Core.Option.{Option, none, some}
-use mathlib.Core.Path.{_≡_, refl, sym, ap, _∙_, subst}
+use mathlib.Core.Path.{_≡_, refl, sym, ap, _∙_}
 use native.Mathlib.Omega.{arith}
 use lib.Dec.{leb, ltb, eqb}
 use lib.IntN.{ℤ, pos}
 use lib.ListN.{length, getD}
-use borrow.Author.Tests.{leb-true, leb-false, le-leb, lt-ltb, ltb-true, ltb-false, eqb-true, eq-eqb, ne-eqb}
+use borrow.Author.Tests.{leb-true, leb-false, le-leb, lt-ltb, ltb-true, eqb-true, eq-eqb}
 use Rattle.model.specs.Common.{every}
 use Rattle.model.specs.Spans.{Span, groupCount, frameCount, meets, holds}
 use Rattle.model.specs.Log.{records, greatestKind, value}
 use Rattle.model.specs.Slot.{slotLength, byBound, byWindows, slotBytes, slotMark, slotKind, slotCount, slotError, slotRow, slotRows, valueIn}
-use Rattle.model.specs.Questions.{Question, accepted, refused, ask, askRoom, marked, outcome, logQuestions, contentQuestions, headerMarked, slotQuestions}
+use Rattle.model.specs.Questions.{Question, accepted, refused, ask, askRoom, marked, outcome, logQuestions, headerMarked, slotQuestions}
 use Rattle.model.specs.Calls.{Header, readOutcome, readRows}
-use Rattle.model.specs.Fitting.{hits, due, Fits, AtMost, NowhereBelow, FitsFor, squaredError, whole}
+use Rattle.model.specs.Fitting.{hits, due, Fits, NowhereBelow, whole}
 use Rattle.model.specs.Check.{everyFrame, coveredAlike, notBelow, sameCover, neverBelow, againstQuestions, boundedQuestions, checkQuestions, checkOutcome}
 use Rattle.model.specs.Demands.{AllPass, Bytes, Storable, Reads, Shuffled, listsFor, Agrees}
-use Rattle.theory.proofs.Tests.{true≢false, cases, and-true, true-and, is-false, none≢some, some-inj, holds-true}
+use Rattle.theory.proofs.Tests.{true≢false, cases, and-true, true-and, none≢some, some-inj, holds-true}
 use Rattle.theory.proofs.Every.{every-at, every-of}
 use Rattle.theory.proofs.Refusals.{all-nil, all-cons, all-head, all-tail, all-append, all-left, all-right, outcome-accepted, all-outcome, outcome-behind, all-lent}
 use Rattle.theory.proofs.SlotLaws.{length-listFrom, round-trip}

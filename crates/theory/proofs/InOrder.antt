@@ -1,9 +1,9 @@
 -- Spans in order, each with a frame: no frame lies in two of them, and what begins behind a frame does not contain it. The rows of a slot
 -- that passes its questions are such spans, and so are segments. Assumes nothing.
-use Prim.Native.Nat.{ℕ, zero, suc, _≤_, _<_}
-use mathlib.Core.Bool.{true, false, _||_, _&&_}
+use Prim.Native.Nat.{ℕ, suc, _≤_, _<_}
+use mathlib.Core.Bool.{true, false, _&&_}
 use mathlib.Core.List.{List, [], _∷_, List·Memᴰ, List·Memᴰ·head, List·Memᴰ·tail}
-use mathlib.Core.Logic.{_⊎_, inl, inr}
+use mathlib.Core.Logic.{inl, inr}
 use mathlib.Core.Option.{none}
 use mathlib.Core.Path.{_≡_, refl, sym, ap, _∙_}
 use native.Mathlib.Omega.{arith}
@@ -16,7 +16,7 @@ use Rattle.model.specs.Slot.{slotCount, slotRow, slotRows, valueIn}
 use Rattle.model.specs.Questions.{ask, groupKnown, mostValue, rowKnown, follows, inOrder, rowQuestions, slotQuestions}
 use Rattle.model.specs.Fitting.{hits}
 use Rattle.model.specs.Demands.{AllPass, Bytes}
-use Rattle.theory.proofs.Tests.{cases, true≢false, and-true, holds-true, false-holds}
+use Rattle.theory.proofs.Tests.{cases, and-true, holds-true, false-holds}
 use Rattle.theory.proofs.Frames.{Heads, Chain, heads-map, From, Earlier}
 use Rattle.theory.proofs.Converse.{member-listFrom}
 use Rattle.theory.proofs.Lists.{listFrom-at}

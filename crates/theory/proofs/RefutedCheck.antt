@@ -1,20 +1,20 @@
 -- Wrong answers about a slot and its log that the demands reject, each by the clause that its comment names. The log is G, of kind 0 with
 -- four rows and the error 11,280, and of kind 3. Assumes nothing.
 use Prim.Native.Nat.{ℕ, _≤_}
-use mathlib.Core.List.{List, [], _∷_, _++_, map}
+use mathlib.Core.List.{List, [], _∷_, map}
 use mathlib.Core.Path.{_≡_, refl, sym, ap, _∙_, subst}
 use native.Mathlib.Omega.{arith}
-use lib.ListN.{length, replicate}
+use lib.ListN.{replicate}
 use Rattle.model.specs.Common.{sumFrom, listFrom, numberAt, bytesOf}
 use Rattle.model.specs.Spans.{Span, groupCount, frameCount, meets, holds}
-use Rattle.model.specs.Log.{recordLength, recordCount, records, meeting, sum, aggregate, aggregated, greatestKind, value}
+use Rattle.model.specs.Log.{recordLength, meeting, sum, aggregate, aggregated, greatestKind, value}
 use Rattle.model.specs.Blocks.{squared}
 use Rattle.model.specs.Split.{mostRows}
 use Rattle.model.specs.Slot.{slotLength, byBound, byWindows, rowBytes, rowsBytes, usedBytes, slotBytes, rowPlace, slotMark, slotKind, slotCount, slotError, slotRow, slotRows, valueIn}
 use Rattle.model.specs.Questions.{refused, accepted, ask, askRoom, outcome, lent, each, marked, kindKnown, boundKnown, groupKnown, logQuestions, orderQuestions}
 use Rattle.model.specs.Questions.{follows, inOrder, rowKnown, rowQuestions, errorKnown, headerMarked, slotQuestions}
-use Rattle.model.specs.Calls.{Counts, queryOutcome, readOutcome, readRows}
-use Rattle.model.specs.Fitting.{hits, due, FitsFor, frameCost, overFrames, squaredError, whole, rowLists}
+use Rattle.model.specs.Calls.{Counts, readOutcome, readRows}
+use Rattle.model.specs.Fitting.{hits, due, FitsFor, frameCost, overFrames, squaredError, whole}
 use Rattle.model.specs.Check.{checkQuestions, checkOutcome}
 use Rattle.model.specs.Demands.{AllPass, Reads, Shuffled, Agrees, NoBetter, CheckPromise, QueryPromise}
 use Rattle.model.specs.declared.Bound.the-variants.{Rows}

@@ -14,7 +14,7 @@ use Rattle.model.specs.Spans.{Span}
 use Rattle.model.specs.Slot.{slotCount, slotRow, slotRows}
 use Rattle.model.specs.Questions.{slotQuestions}
 use Rattle.model.specs.Calls.{rowSpan, rowOfSpan, segmentSpan, segmentOf}
-use Rattle.model.specs.Arrays.{spanIn, spansIn}
+use Rattle.model.specs.Arrays.{spanIn}
 use Rattle.model.specs.Demands.{AllPass, Bytes}
 use Rattle.model.specs.Room.{mostError}
 use Rattle.model.specs.declared.Row.{Row}
