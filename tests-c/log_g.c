@@ -855,6 +855,14 @@ static void test_orders(const uint8_t *log)
     }
 }
 
+/* A byte of a slot with other content, and the question that then gets 'no'. */
+struct damage {
+    size_t byte;
+    uint8_t content;
+    uint8_t question;
+    size_t index;
+};
+
 /* A slot against its log. Slots that queries write pass with theirs; a byte of one makes each of the
  * questions fail.
  */
@@ -897,12 +905,7 @@ static void test_check(const uint8_t *log)
     /* The worked case with one byte damaged: frames, groups, values, the error and the kind. The rows
      * begin at 12, 23, 34 and 45.
      */
-    static const struct {
-        size_t byte;
-        uint8_t content;
-        uint8_t question;
-        size_t index;
-    } cases[] = {
+    static const struct damage cases[] = {
         {15, 1, 22, 0},    {17, 0, 22, 0},   {28, 5, 22, 0},    {28, 7, 22, 0},    {28, 8, 22, 0},
         {37, 8, 22, 0},    {37, 10, 22, 0},  {39, 9, 22, 0},    {39, 11, 22, 0},   {47, 2, 22, 0},
         {50, 1, 22, 0},    {51, 1, 22, 0},   {19, 0x65, 24, 0}, {19, 0x63, 24, 0}, {30, 0xF1, 24, 0},
@@ -1017,12 +1020,7 @@ static void test_read(uint8_t *slot, size_t length)
     SAME(pacer_read(slot, 767).question, 1);
 
     /* A damaged byte at a time, and the question that it fails. */
-    static const struct {
-        size_t byte;
-        uint8_t content;
-        uint8_t question;
-        size_t index;
-    } cases[] = {
+    static const struct damage cases[] = {
         {0, 0x51, 11, 0},  {1, 0x49, 11, 0},  {1, 0x43, 11, 0},    {1, PACER_BY_WINDOWS, 17, 0},
         {2, 5, 12, 0},     {3, 65, 13, 0},
         {23, 0x51, 14, 1}, {25, 8, 15, 1},    {26, 7, 15, 1},      {33, 2, 15, 1},

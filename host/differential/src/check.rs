@@ -2,7 +2,7 @@
 //! records; by windows it is refused by its header. Slots that are damaged or made otherwise are
 //! compared with the independent implementation, and none that passes is better than the query.
 
-use crate::compare::{number, same};
+use crate::compare::{add_counts, named_counts, number, same};
 use crate::inputs;
 use crate::order::{self, Ask};
 use crate::random::Random;
@@ -66,16 +66,11 @@ pub struct Checked {
 
 impl Checked {
     pub fn join(&mut self, other: &Checked) {
-        let pairs = [
-            (&mut self.met[..], &other.met[..]),
+        add_counts([
+            (&mut self.met, &other.met),
             (&mut self.written_kinds, &other.written_kinds),
             (&mut self.other_kinds, &other.other_kinds),
-        ];
-        for (one, two) in pairs {
-            for (a, b) in one.iter_mut().zip(two) {
-                *a += b;
-            }
-        }
+        ]);
     }
 
     fn add(&mut self, what: Met) {
@@ -112,13 +107,10 @@ impl Checked {
         if self.met == [0; NAMES.len()] {
             return;
         }
-        let met: Vec<String> = NAMES
-            .iter()
-            .zip(self.met)
-            .filter(|(_, count)| *count > 0)
-            .map(|(what, count)| format!("{what} {count}"))
-            .collect();
-        println!("  slots held to their logs: {}", met.join(", "));
+        println!(
+            "  slots held to their logs: {}",
+            named_counts(&NAMES, &self.met)
+        );
         if self.written_kinds != [0; 5] {
             println!(
                 "    by kind, as written {:?}, accepted otherwise {:?}",

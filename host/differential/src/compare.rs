@@ -88,6 +88,26 @@ impl Seen {
     }
 }
 
+/// Adds counts to others, place by place.
+pub fn add_counts<const N: usize>(pairs: [(&mut [u64], &[u64]); N]) {
+    for (counts, more) in pairs {
+        for (count, more) in counts.iter_mut().zip(more) {
+            *count += more;
+        }
+    }
+}
+
+/// The counts that are not 0, each behind its name.
+pub fn named_counts(names: &[&str], counts: &[u64]) -> String {
+    let met: Vec<String> = names
+        .iter()
+        .zip(counts)
+        .filter(|(_, count)| **count > 0)
+        .map(|(what, count)| format!("{what} {count}"))
+        .collect();
+    met.join(", ")
+}
+
 /// Tells where two things differ.
 pub fn same<T: PartialEq + Debug>(what: &str, found: T, expected: T) -> Result<(), String> {
     if found == expected {

@@ -2,7 +2,7 @@
 //! order. The library has to give the same answer and the same bytes for it.
 
 use crate::check::{self, Checked};
-use crate::compare::{number, same, same_places};
+use crate::compare::{add_counts, named_counts, number, same, same_places};
 use crate::random::Random;
 use crate::windows::Windows;
 use pacer::{c, RECORDS, RECORD_BYTES, SEGMENT_PLACES, SLOT_BYTES};
@@ -63,16 +63,11 @@ pub struct Shuffled {
 
 impl Shuffled {
     pub fn join(&mut self, other: &Shuffled) {
-        let pairs = [
-            (&mut self.met[..], &other.met[..]),
+        add_counts([
+            (&mut self.met, &other.met),
             (&mut self.bound_kinds, &other.bound_kinds),
             (&mut self.window_kinds, &other.window_kinds),
-        ];
-        for (one, two) in pairs {
-            for (a, b) in one.iter_mut().zip(two) {
-                *a += b;
-            }
-        }
+        ]);
     }
 
     fn add(&mut self, what: Met, is_so: bool) {
@@ -112,13 +107,7 @@ impl Shuffled {
 
     /// Prints what was met.
     pub fn print(&self) {
-        let met: Vec<String> = NAMES
-            .iter()
-            .zip(self.met)
-            .filter(|(_, count)| *count > 0)
-            .map(|(what, count)| format!("{what} {count}"))
-            .collect();
-        println!("  in another order: {}", met.join(", "));
+        println!("  in another order: {}", named_counts(&NAMES, &self.met));
         for (what, kinds) in [
             ("a bound", self.bound_kinds),
             ("windows", self.window_kinds),
