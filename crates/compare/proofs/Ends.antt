@@ -1,5 +1,5 @@
 -- Where the walk begins, and what it has found where it ends. Assumes nothing.
-use Prim.Native.Nat.{ℕ, suc, _+_, _-_, _≤_, _<_, max, zero-le}
+use Prim.Native.Nat.{ℕ, suc, _+_, _-_, _≤_, _<_, zero-le}
 use mathlib.Core.Bool.{Bool, true, false, _&&_, and-false}
 use mathlib.Core.List.{List, [], _∷_, map, List·Memᴰ}
 use mathlib.Core.Logic.{inl, inr}
@@ -25,6 +25,7 @@ use Rattle.theory.proofs.InOrder.{InOrder, once, behind-free}
 use Rattle.theory.proofs.Stored.{Held}
 use Rattle.theory.proofs.Check.{every-frame, each-frame, alike-exact, exact-alike}
 use Rattle.compare.specs.Found.{Compares}
+use Rattle.compare.specs.Fronts.{firstPlace}
 use Rattle.compare.proofs.Fronts.{trim, clip, Reaches, trim-whole, costIn}
 use Rattle.compare.proofs.Walking.{Walk, rows, segs, rowsLeft, segsLeft, Valued, below}
 use Rattle.compare.proofs.Costs.{error-sum, short-sum}
@@ -42,7 +43,7 @@ clip-order p (s ∷ l) order reach = let proper = order .0 in (omega arith, orde
 module _ (h k : ℕ → Span ℕ) (c n i j p : ℕ) (lt : i < c) (order : InOrder (listFrom i (c - i) h)) (order′ : InOrder (listFrom j (n - j) k))
     (reach : Heads (Reaches p) (listFrom i (c - i) h)) (reach′ : Heads (Reaches p) (listFrom j (n - j) k)) (small : (h i) .last < 65536)
     (small′ : j < n → (k j) .last < 65536)
-    (later : j < n → max (placeOf ((h i) .group) ((h i) .first)) p < max (placeOf ((k j) .group) ((k j) .first)) p) where
+    (later : j < n → firstPlace p (h i) < firstPlace p (k j)) where
   abbrev s : Span ℕ
   s = h i
 
@@ -54,7 +55,7 @@ module _ (h k : ℕ → Span ℕ) (c n i j p : ℕ) (lt : i < c) (order : InOrde
       (omega arith, reaches)
 
   from-places : (t : Span ℕ) → t .last < 65536 → t .first ≤ t .last → Reaches p t
-      → max (placeOf (s .group) (s .first)) p < max (placeOf (t .group) (t .first)) p → From (s .group) (suc ((trim p s) .first)) (trim p t)
+      → firstPlace p s < firstPlace p t → From (s .group) (suc ((trim p s) .first)) (trim p t)
   unfolding trim placeOf
   from-places t low proper reaches less =
       let (in-s, reaches-s) = inside in
@@ -181,7 +182,7 @@ module _ (h k : ℕ → Span ℕ) (c n : ℕ) where
         }
 
     -- a row begins before what is left of the segments, or a segment before what is left of the rows
-    row-first : i < c → (j < n → max (placeOf ((h i) .group) ((h i) .first)) p < max (placeOf ((k j) .group) ((k j) .first)) p)
+    row-first : i < c → (j < n → firstPlace p (h i) < firstPlace p (k j))
         → Compares R S (record { same = false; reaches = reaches; error = error })
     unfolding frameCount
     row-first lt later =
@@ -194,7 +195,7 @@ module _ (h k : ℕ → Span ℕ) (c n : ℕ) where
         (λ kind rs is.
         differ order kind rs is i j p reaches error w ((h i) .group) ((trim p (h i)) .first) group in-range (λ e. omega arith))
 
-    seg-first : j < n → (i < c → max (placeOf ((k j) .group) ((k j) .first)) p < max (placeOf ((h i) .group) ((h i) .first)) p)
+    seg-first : j < n → (i < c → firstPlace p (k j) < firstPlace p (h i))
         → Compares R S (record { same = false; reaches = reaches; error = error })
     unfolding frameCount
     seg-first lt later =
@@ -208,11 +209,11 @@ module _ (h k : ℕ → Span ℕ) (c n : ℕ) where
         differ order kind rs is i j p reaches error w ((k j) .group) ((trim p (k j)) .first) group in-range (λ e. omega arith))
 
     -- the two at hand do not begin together
-    pub apart : i < c → j < n → (max (placeOf ((h i) .group) ((h i) .first)) p ≡ max (placeOf ((k j) .group) ((k j) .first)) p → ⊥)
+    pub apart : i < c → j < n → (firstPlace p (h i) ≡ firstPlace p (k j) → ⊥)
         → Compares R S (record { same = false; reaches = reaches; error = error })
     apart lt lt′ other =
-        let at-row = max (placeOf ((h i) .group) ((h i) .first)) p in
-        let at-seg = max (placeOf ((k j) .group) ((k j) .first)) p in
+        let at-row = firstPlace p (h i) in
+        let at-seg = firstPlace p (k j) in
         cases (ltb at-row at-seg) (λ e. row-first lt (λ x. ltb-true at-row at-seg e))
         (λ e. seg-first lt′ (λ x. omega (arith, ltb-false at-row at-seg e, other)))
 

@@ -13,6 +13,7 @@ use Rattle.model.specs.Common.{sumOf}
 use Rattle.model.specs.Spans.{Span, groupCount, frameCount, spanLength, meets, holds}
 use Rattle.model.specs.Fitting.{overFrames}
 use Rattle.slot.specs.Places.{placeOf}
+use Rattle.compare.specs.Fronts.{firstPlace, lastPlace}
 use Rattle.theory.proofs.Tests.{cases}
 use Rattle.theory.proofs.Sums.{overFrames-cong, overFrames-add}
 use Rattle.theory.proofs.Frames.{Heads, worth, holds-joined, Piece, Earlier}
@@ -34,10 +35,10 @@ clip p (s ∷ l) = trim p s ∷ l
 
 -- something is left of a span
 abbrev pub Reaches : ℕ → Span ℕ → Type 0
-Reaches p s = p ≤ placeOf (s .group) (s .last)
+Reaches p s = p ≤ lastPlace s
 
 -- it begins at the later one of its place and that place
-pub trim-place : (p : ℕ) (s : Span ℕ) → placeOf (s .group) ((trim p s) .first) ≡ max (placeOf (s .group) (s .first)) p
+pub trim-place : (p : ℕ) (s : Span ℕ) → placeOf (s .group) ((trim p s) .first) ≡ firstPlace p s
 unfolding placeOf trim
 trim-place p s = omega arith
 
@@ -108,7 +109,7 @@ module _ (p e : ℕ) (s : Span ℕ) (rest : List (Span ℕ)) (order : InOrder (s
 
   -- what stands behind the front: the others where the span ends with it
   abbrev pub left : List (Span ℕ)
-  left = cond (eqb (placeOf (s .group) (s .last)) (placeOf (s .group) e)) rest (s ∷ rest)
+  left = cond (eqb (lastPlace s) (placeOf (s .group) e)) rest (s ∷ rest)
 
   same-place : (b : ℕ) → placeOf (s .group) b ≡ placeOf (s .group) e → b ≡ e
   unfolding placeOf
@@ -122,11 +123,11 @@ module _ (p e : ℕ) (s : Span ℕ) (rest : List (Span ℕ)) (order : InOrder (s
   pub left-reaches : Heads (Reaches next) left
   unfolding placeOf
   left-reaches =
-      cases (eqb (placeOf (s .group) (s .last)) (placeOf (s .group) e))
+      cases (eqb (lastPlace s) (placeOf (s .group) e))
       (λ t. rw t (others rest (order .1) (order .2)))
       (λ t.
       let apart : s .last ≡ e → ⊥ = λ is. eqb-false _ _ t (ap (placeOf (s .group)) is) in
-      let longer : next ≤ placeOf (s .group) (s .last) = omega (arith, apart) in
+      let longer : next ≤ lastPlace s = omega (arith, apart) in
       rw t longer)
     where
       others : (l : List (Span ℕ)) → Heads (Earlier s) l → InOrder l → Heads (Reaches next) l
@@ -138,7 +139,7 @@ module _ (p e : ℕ) (s : Span ℕ) (rest : List (Span ℕ)) (order : InOrder (s
       → sumOf w (clip p (s ∷ rest)) ≡ w (span (s .group) ((trim p s) .first) e (s .value)) + sumOf w (clip next left)
   unfolding clip sumOf trim
   front-off w adds =
-      cases (eqb (placeOf (s .group) (s .last)) (placeOf (s .group) e))
+      cases (eqb (lastPlace s) (placeOf (s .group) e))
       (λ t.
       let ends : s .last ≡ e = same-place (s .last) (eqb-true _ _ t) in
       rw (t, clip-whole (s .group) e rest (omega arith) (rw ends at (order .1)), ends))
@@ -147,5 +148,5 @@ module _ (p e : ℕ) (s : Span ℕ) (rest : List (Span ℕ)) (order : InOrder (s
       let whole = adds (s .group) ((trim p s) .first) e (s .last) (s .value) from longer in
       rw (t, begins) (omega arith))
     where
-      apart : eqb (placeOf (s .group) (s .last)) (placeOf (s .group) e) ≡ false → s .last ≡ e → ⊥
+      apart : eqb (lastPlace s) (placeOf (s .group) e) ≡ false → s .last ≡ e → ⊥
       apart t is = eqb-false _ _ t (ap (placeOf (s .group)) is)

@@ -1,5 +1,5 @@
 -- Rows and segments walked together: what is so of the walk at every turn, and that a turn keeps it. Assumes nothing.
-use Prim.Native.Nat.{ℕ, suc, _+_, _*_, _-_, _≤_, _<_, min, max}
+use Prim.Native.Nat.{ℕ, suc, _+_, _*_, _-_, _≤_, _<_, min}
 use mathlib.Core.Bool.{Bool, _&&_, cond, and-true, and-false}
 use mathlib.Core.List.{List, _∷_, List·Memᴰ}
 use mathlib.Core.Option.{Option}
@@ -23,6 +23,7 @@ use Rattle.theory.proofs.Frames.{Heads, Piece}
 use Rattle.theory.proofs.Converse.{listFrom-member}
 use Rattle.theory.proofs.InOrder.{InOrder}
 use Rattle.theory.proofs.Stored.{Held}
+use Rattle.compare.specs.Fronts.{firstPlace, lastPlace, endPlace}
 use Rattle.compare.proofs.Fronts.{span, trim, clip, Reaches, trim-place, trim-from, Adds, span-length, length-adds, holds-adds, holds-alike, costIn, cost-adds, cost-front, left, front-off, left-reaches}
 
 -- what a row's number costs a frame: its squared difference, and 1 where it is below the frame's value
@@ -82,7 +83,7 @@ module _ (h : ℕ → Span ℕ) (c i p e : ℕ) (lt : i < c) (order : InOrder (l
   others = listFrom (i + 1) (c - (i + 1)) h
 
   abbrev goesOn : ℕ
-  goesOn = cond (eqb (placeOf ((h i) .group) ((h i) .last)) (placeOf ((h i) .group) e)) (i + 1) i
+  goesOn = cond (eqb (lastPlace (h i)) (placeOf ((h i) .group) e)) (i + 1) i
 
   here : listFrom i (c - i) h ≡ h i ∷ others
   here = rw (add-one i) (listFrom-left h i c lt)
@@ -92,7 +93,7 @@ module _ (h : ℕ → Span ℕ) (c i p e : ℕ) (lt : i < c) (order : InOrder (l
 
   gone-on : listFrom goesOn (c - goesOn) h ≡ left p e (h i) others in-order from to small
   gone-on =
-      cases (eqb (placeOf ((h i) .group) ((h i) .last)) (placeOf ((h i) .group) e)) (λ t. rw t) (λ t. rw (t, here))
+      cases (eqb (lastPlace (h i)) (placeOf ((h i) .group) e)) (λ t. rw t) (λ t. rw (t, here))
 
   pub on-off : (w : Span ℕ → ℕ) → Adds w
       → sumOf w (clip p (listFrom i (c - i) h))
@@ -106,16 +107,16 @@ module _ (h : ℕ → Span ℕ) (c i p e : ℕ) (lt : i < c) (order : InOrder (l
   pub on-order : InOrder (listFrom goesOn (c - goesOn) h)
   on-order =
       rw gone-on
-      (cases (eqb (placeOf ((h i) .group) ((h i) .last)) (placeOf ((h i) .group) e)) (λ t. rw t (in-order .2)) (λ t. rw t in-order))
+      (cases (eqb (lastPlace (h i)) (placeOf ((h i) .group) e)) (λ t. rw t (in-order .2)) (λ t. rw t in-order))
 
   pub on-le : goesOn ≤ c
-  on-le = cases (eqb (placeOf ((h i) .group) ((h i) .last)) (placeOf ((h i) .group) e)) (λ t. rw t (omega arith)) (λ t. rw t (omega arith))
+  on-le = cases (eqb (lastPlace (h i)) (placeOf ((h i) .group) e)) (λ t. rw t (omega arith)) (λ t. rw t (omega arith))
 
 -- one turn
 module _ (h k : ℕ → Span ℕ) (c n : ℕ) (rows-held : (s : Span ℕ) → List·Memᴰ s (rows h k c n) → Held s)
     (segs-held : (s : Span ℕ) → List·Memᴰ s (segs h k c n) → Held s) (i j p : ℕ) (reaches : Bool) (error : ℕ)
     (w : Walk h k c n i j p reaches error) (lt : i < c) (lt′ : j < n)
-    (level : max (placeOf ((h i) .group) ((h i) .first)) p ≡ max (placeOf ((k j) .group) ((k j) .first)) p) where
+    (level : firstPlace p (h i) ≡ firstPlace p (k j)) where
   abbrev r : Span ℕ
   r = h i
 
@@ -157,7 +158,7 @@ module _ (h k : ℕ → Span ℕ) (c n : ℕ) (rows-held : (s : Span ℕ) → Li
   e = min (r .last) (s .last)
 
   abbrev end : ℕ
-  end = min (placeOf (r .group) (r .last)) (placeOf (s .group) (s .last))
+  end = endPlace r s
 
   ends : (end ≡ placeOf (r .group) e) × (end ≡ placeOf (s .group) e) × ((trim p r) .first ≤ e) × (a ≤ e) × (e ≤ r .last) × (e ≤ s .last)
   unfolding placeOf
@@ -167,7 +168,7 @@ module _ (h k : ℕ → Span ℕ) (c n : ℕ) (rows-held : (s : Span ℕ) → Li
 
   -- as many frames
   abbrev first : ℕ
-  first = max (placeOf (s .group) (s .first)) p
+  first = firstPlace p s
 
   frames : end + 1 - first ≡ suc e - a
   unfolding placeOf
@@ -185,10 +186,10 @@ module _ (h k : ℕ → Span ℕ) (c n : ℕ) (rows-held : (s : Span ℕ) → Li
       (omega arith, omega (arith, frames))
 
   abbrev row-next : ℕ
-  row-next = cond (eqb (placeOf (r .group) (r .last)) end) (i + 1) i
+  row-next = cond (eqb (lastPlace r) end) (i + 1) i
 
   abbrev seg-next : ℕ
-  seg-next = cond (eqb (placeOf (s .group) (s .last)) end) (j + 1) j
+  seg-next = cond (eqb (lastPlace s) end) (j + 1) j
 
   -- weights of what is left, of rows and of segments
   row-off : (weight : Span ℕ → ℕ) → Adds weight
@@ -257,13 +258,13 @@ module _ (h k : ℕ → Span ℕ) (c n : ℕ) (rows-held : (s : Span ℕ) → Li
   -- a turn takes a row or a segment off, or both
   pub fewer : c - row-next + (n - seg-next) < c - i + (n - j)
   fewer =
-      cases (eqb (placeOf (r .group) (r .last)) end)
-      (λ t. cases (eqb (placeOf (s .group) (s .last)) end) (λ u. rw (t, u) (omega arith)) (λ u. rw (t, u) (omega arith)))
+      cases (eqb (lastPlace r) end)
+      (λ t. cases (eqb (lastPlace s) end) (λ u. rw (t, u) (omega arith)) (λ u. rw (t, u) (omega arith)))
       (λ t.
-      cases (eqb (placeOf (s .group) (s .last)) end) (λ u. rw (t, u) (omega arith))
+      cases (eqb (lastPlace s) end) (λ u. rw (t, u) (omega arith))
       (λ u. absurd (neither (eqb-false _ _ t) (eqb-false _ _ u))))
     where
-      neither : (placeOf (r .group) (r .last) ≡ end → ⊥) → (placeOf (s .group) (s .last) ≡ end → ⊥) → ⊥
+      neither : (lastPlace r ≡ end → ⊥) → (lastPlace s ≡ end → ⊥) → ⊥
       neither not-r not-s = omega (arith, not-r, not-s)
 
   -- the turn as the code makes it
