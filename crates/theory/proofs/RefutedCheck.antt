@@ -4,7 +4,7 @@ use Prim.Native.Nat.{ℕ, _≤_}
 use mathlib.Core.List.{List, [], _∷_, map}
 use mathlib.Core.Path.{_≡_, refl, sym, ap, _∙_, subst}
 use native.Mathlib.Omega.{arith}
-use lib.ListN.{replicate}
+use lib.ListN.{length, replicate}
 use Rattle.model.specs.Common.{sumFrom, listFrom, numberAt, bytesOf}
 use Rattle.model.specs.Spans.{Span, groupCount, frameCount, meets, holds}
 use Rattle.model.specs.Log.{recordLength, meeting, sum, aggregate, aggregated, greatestKind, value}
@@ -136,6 +136,12 @@ better-than-own no-better =
     let (mark, kind, error, rows) = one-reading _ _ _ _ _ _ _ _ _ (b .reads) (read .5) in
     let own = accepted-inj (sym (rw (kind, rows) at (b .answers)) ∙ four-outcome) in
     omega (arith, b .asGreatAnError, ap (λ (c : Counts). c .error) own)
+
+-- an answer of its own with more rows (asManyRows)
+pub own-of-more-rows : (b : NoBetter (bytes log-G) (slot-of 0 11279 rows-G) 768) → b .own .rows ≡ 5 → ⊥
+own-of-more-rows b five =
+    let rows = one-reading _ _ _ _ _ _ _ _ _ (b .reads) (read .5) .3 in
+    omega (arith, b .asManyRows, ap length rows)
 
 -- a query that leaves a slot of zeros (passes)
 pub query-not-passed : (counts : Counts)
