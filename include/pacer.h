@@ -6,13 +6,25 @@
  * with the same nine bytes are twins; a log that has some is refused, and pacer_without_twins keeps
  * the first of them. pacer_check holds a slot by a bound, whoever made it, to its log.
  *
+ * A query by a bound, pacer_segments and pacer_check take a width of 1 to 4,096 frames: load with a
+ * memory, as heat follows the last seconds of play. A frame's value is then the aggregate over the
+ * records of its group that contain at least one of the last `width` frames, the frame itself
+ * included, each record counted once; and a frame is covered if there is such a record. So a record
+ * counts in its own frames and in the width - 1 frames behind them. Frames past 65,535 do not exist,
+ * nor do any before 0. With the width 1 (PACER_ONE_FRAME) a value is over the records that contain
+ * the frame itself. A query by windows takes no width.
+ *
+ * A slot does not say which width it was made with: whoever keeps slots of several widths has to keep
+ * the width beside each, and pacer_check has to be told the one that the query had. Promises that
+ * speak of a query and a check, or of two logs, are for the same width in both.
+ *
  * Records may stand in any order, as where two consoles feed one log. Logs that pass questions 4 to
- * 9 and 21 and hold the same records, in whatever order, have the same segments; and every query in
- * order itself, with a slot long enough, gives the same answer, cuts weighed included, and the same
- * first 768 bytes of the slot, or is refused with the same one of 10 and 20; and a slot that is held
- * to them gets the same answer. A log that does not pass is refused with its first 'no' in the order
- * as lent, and the index (6 to 9 and 21) is that of the log as lent. pacer_without_twins keeps the
- * order that it finds.
+ * 9 and 21 and hold the same records, in whatever order, have the same segments with every width; and
+ * every query in order itself, with a slot long enough, gives the same answer, cuts weighed included,
+ * and the same first 768 bytes of the slot, or is refused with the same one of 10 and 20; and a slot
+ * that is held to them with one width gets the same answer. A log that does not pass is refused with
+ * its first 'no' in the order as lent, and the index (6 to 9 and 21) is that of the log as lent.
+ * pacer_without_twins keeps the order that it finds.
  *
  * Every call asks its questions in the order given at the call. The answer's field `question` is
  * 0 if all got 'yes'. Otherwise it is the number of the first question that got 'no', `index` is
@@ -45,6 +57,7 @@
  *   22  Do the rows cover, group by group, just the covered frames?
  *   23  Is no row of kind 3 below the value of a covered frame in it?
  *   24  Is the header's error the squared error of the rows, summed frame by frame?
+ *   25  Is the width 1 to 4,096?
  *
  * The questions of one record or row come before the next one's, 21 of a record after its 9.
  *
@@ -60,7 +73,7 @@
 #include <stdint.h>
 
 /* The version of the library that this header describes. */
-#define PACER_VERSION "0.15.0"
+#define PACER_VERSION "0.16.0"
 
 #ifdef __cplusplus
 extern "C" {
@@ -87,8 +100,16 @@ enum {
     PACER_SLOT_STACK = 3 * 1024           /* every other call */
 };
 
-/* What a frame's value is, over the records that contain it, and the value of a window's row, over
- * the records that contain at least one of its frames.
+/* Widths, in frames: over how many of the last frames, the frame itself included, a value looks back.
+ * Any width from PACER_ONE_FRAME to PACER_MOST_WIDTH may be asked for.
+ */
+enum {
+    PACER_ONE_FRAME = 1,                  /* no memory: the records that contain the frame itself */
+    PACER_MOST_WIDTH = 4096
+};
+
+/* What a frame's value is, over the records that contain at least one of the last `width` frames, and
+ * the value of a window's row, over the records that contain at least one of its frames.
  */
 enum {
     PACER_SUM = 0,      /* sum of the loads */
@@ -167,7 +188,9 @@ struct pacer_lookup_answer {
     uint32_t value;     /* that row's value; 0 if there is none */
 };
 
-/* A longest stretch of covered frames of one group with equal value; both frames included. */
+/* A longest stretch of covered frames of one group with equal value; both frames included. Covered
+ * and value are by the width asked for.
+ */
 struct pacer_segment {
     uint8_t group;
     uint16_t first;
@@ -208,24 +231,27 @@ struct pacer_log_answer pacer_without_twins(const uint8_t *log, size_t log_lengt
 
 /* Reduces a log to the rows that a query asks for and writes them into a slot.
  * `rule` says whether `bound` is a row limit (PACER_ROWS) or a share (PACER_SHARE); any other
- * rule is question 3's 'no'.
- * Asks 1 (768 bytes of slot), 2, 3, 4, 5, then 6 to 9 and 21 for record after record, then 10.
+ * rule is question 3's 'no'. `width` says over how many of the last frames a frame's value looks
+ * back: PACER_ONE_FRAME for the load of the frame itself, at most PACER_MOST_WIDTH.
+ * Asks 1 (768 bytes of slot), 2, 3, 25, 4, 5, then 6 to 9 and 21 for record after record, then 10.
  * Accepted: the first 768 bytes of the slot are header, rows and zeros; the others keep their
  * content. The answer gives the count of rows, their error and the number of cuts weighed.
  * A row's value is the whole number nearest to the mean of the values in it, the upper one at a
  * half: the values 0 and 1 of two frames give 1. With PACER_GREATEST it is the greatest of them, so
- * that no frame needs more than its row says. The error is that of these values.
+ * that no frame needs more than its row says. The error is that of these values. The rows cover just
+ * the frames that are covered by the width; the slot does not store the width.
  * Refused: the slot is unchanged; rows, error and weighed are 0.
  * Any order: a log that passes 4 to 9 and 21 gives the same answer, cuts weighed and a refusal 10
  * included, and the same 768 bytes with its records in any other order.
  * `log` and `slot` must not overlap.
  */
-struct pacer_query_answer pacer_query(uint8_t kind, uint8_t rule, uint16_t bound,
+struct pacer_query_answer pacer_query(uint8_t kind, uint8_t rule, uint16_t bound, uint16_t width,
                                       const uint8_t *log, size_t log_length,
                                       uint8_t *slot, size_t slot_length);
 
 /* Writes a log's rows by beats into a slot: those of the windows every `length` frames from frame
- * `start` on, the last one cut off at frame 65,535. Frames before `start` lie in no window.
+ * `start` on, the last one cut off at frame 65,535. Frames before `start` lie in no window. There is
+ * no width: a window has its own frames, and 25 is not asked.
  * Asks 1 (768 bytes of slot), 2, 18, 4, 5, then 6 to 9 and 21 for record after record, then 20.
  * Accepted: the first 768 bytes of the slot are header (50 53), rows and zeros; the others keep
  * their content. The answer gives the count of rows; error and weighed are 0.
@@ -254,15 +280,18 @@ struct pacer_query_answer pacer_query_scenes(uint8_t kind,
                                              const uint8_t *log, size_t log_length,
                                              uint8_t *slot, size_t slot_length);
 
-/* Lists a log's segments, by group and then by first frame.
- * Asks 1 (255 places), 2, 4, 5, then 6 to 9 and 21 for record after record.
+/* Lists a log's segments, by group and then by first frame. `width` says over how many of the last
+ * frames a frame's value looks back, as with pacer_query.
+ * Asks 1 (255 places), 2, 25, 4, 5, then 6 to 9 and 21 for record after record.
  * Accepted: the first `count` places hold the segments, the others keep their content.
  * Refused: the list is unchanged; count is 0.
+ * There are at most 255 segments with every width.
  * Any order: a log that passes 4 to 9 and 21 has the same segments with its records in any other
  * order.
  * `log` and `list` must not overlap.
  */
 struct pacer_segments_answer pacer_segments(const uint8_t *log, size_t log_length, uint8_t kind,
+                                            uint16_t width,
                                             struct pacer_segment *list, size_t places);
 
 /* Reads a slot's kind, error and count of rows, and which header it has. Under the header 50 48
@@ -299,24 +328,28 @@ struct pacer_lookup_answer pacer_lookup(const uint8_t *slot, size_t length, uint
                                         uint16_t frame);
 
 /* Holds a slot by a bound to its log: whether its rows are rows of this log, and its error theirs. It
- * is for slots that come with their logs, made by whichever tool.
- * Asks 1 (768 bytes of slot), 4, 5, then 6 to 9 and 21 for record after record, 11 (the header 50 48
- * alone), 12, 13, then 14 to 16 for row after row, 17, 22, 23, 24. A frame's value is that of the
- * slot's kind. 22: a frame of a group lies in a row exactly if a record of that group contains it;
- * that is the same for every kind. 23 is asked of slots of kind 3 alone. 24: the error is the sum over
- * all covered frames of the square of the frame's value less its row's.
+ * is for slots that come with their logs, made by whichever tool. `width` is the one that the slot was
+ * made with; the slot does not say it.
+ * Asks 1 (768 bytes of slot), 25, 4, 5, then 6 to 9 and 21 for record after record, 11 (the header
+ * 50 48 alone), 12, 13, then 14 to 16 for row after row, 17, 22, 23, 24. A frame's value is that of
+ * the slot's kind and of the width. 22: a frame of a group lies in a row exactly if a record of that
+ * group contains at least one of the last `width` frames; that is the same for every kind. 23 is
+ * asked of slots of kind 3 alone. 24: the error is the sum over all covered frames of the square of
+ * the frame's value less its row's.
  * Writes nothing. The index is that of the record or row concerned for 6 to 9, 14 to 16 and 21.
- * Accepted: the rows are a list that fits the log for the kind, and the error is its squared error.
- * They need not be the best: rows cut finer than needed are accepted, and rows of any value, of kind
- * 3 of any that is nowhere below a covered value.
- * Every slot that pacer_query writes for a log is accepted with that log. No slot that is accepted is
- * better than the query's own answer: pacer_query of the slot's kind, with PACER_ROWS and the slot's
- * count of rows, is accepted, with at most as many rows and at most the slot's error.
+ * Accepted: the rows are a list that fits the log for the kind and the width, and the error is its
+ * squared error. They need not be the best: rows cut finer than needed are accepted, and rows of any
+ * value, of kind 3 of any that is nowhere below a covered value.
+ * Every slot that pacer_query writes for a log is accepted with that log and the same width. No slot
+ * that is accepted is better than the query's own answer of the same width: pacer_query of the slot's
+ * kind and that width, with PACER_ROWS and the slot's count of rows, is accepted, with at most as many
+ * rows and at most the slot's error. With another width nothing is promised: the slot may be refused,
+ * by 22, 23 or 24, or be accepted where the two widths say the same of the log.
  * Any order: with a log that passes 4 to 9 and 21 the answer is the same with its records in any
  * other order.
  * `log` and `slot` are only read, and may overlap.
  */
-struct pacer_check_answer pacer_check(const uint8_t *log, size_t log_length,
+struct pacer_check_answer pacer_check(const uint8_t *log, size_t log_length, uint16_t width,
                                       const uint8_t *slot, size_t slot_length);
 
 #ifdef __cplusplus

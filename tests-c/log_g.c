@@ -1,5 +1,6 @@
 /* Log G through the C interface: write_record, without_twins, segments, query, query_beats,
- * query_scenes, read, read_rows, row_at, lookup and check; and in every order of its records.
+ * query_scenes, read, read_rows, row_at, lookup and check; with a memory; and in every order of its
+ * records. A width of 1 is no memory, and what the calls without one gave.
  *
  * Every answer is checked against the numbers that the paper prints for log G, or against what its
  * rules give for it by hand, and every byte lent against the paper's layout. Prints one line,
@@ -163,8 +164,8 @@ static void test_segments(const uint8_t *log)
 
     for (size_t i = 0; i < places; i++)
         list[i] = (struct pacer_segment){9, 10, 11, 12};
-    SAME(pacer_segments(log, 45, PACER_SUM, list, 254).question, 1);
-    SAME(pacer_segments(log, 45, PACER_MEAN + 1, list, places).question, 2);
+    SAME(pacer_segments(log, 45, PACER_SUM, 1, list, 254).question, 1);
+    SAME(pacer_segments(log, 45, PACER_MEAN + 1, 1, list, places).question, 2);
     SAME(list[0].group, 9);
 
     static const struct {
@@ -172,7 +173,7 @@ static void test_segments(const uint8_t *log)
         const struct pacer_segment *segments;
     } cases[] = {{PACER_MEAN, mean_segments_g}, {PACER_SUM, segments_g}};
     for (size_t c = 0; c < sizeof cases / sizeof cases[0]; c++) {
-        struct pacer_segments_answer a = pacer_segments(log, 45, cases[c].kind, list, places);
+        struct pacer_segments_answer a = pacer_segments(log, 45, cases[c].kind, 1, list, places);
         SAME(a.question, 0);
         SAME(a.index, 0);
         SAME(a.count, 6);
@@ -204,7 +205,7 @@ static void test_query(const uint8_t *log, uint8_t *slot, size_t length)
 
     for (size_t i = 0; i < sizeof cases / sizeof cases[0]; i++) {
         const struct pacer_query_answer a =
-            pacer_query(PACER_SUM, cases[i].rule, cases[i].bound, log, 45, slot, length);
+            pacer_query(PACER_SUM, cases[i].rule, cases[i].bound, 1, log, 45, slot, length);
         SAME(a.question, 0);
         SAME(a.index, 0);
         SAME(a.rows, cases[i].rows);
@@ -214,29 +215,29 @@ static void test_query(const uint8_t *log, uint8_t *slot, size_t length)
     /* Refusals leave the slot unchanged. */
     fill(before, sizeof before);
     memcpy(slot, before, length);
-    SAME(pacer_query(5, 0, 65, log, 44, slot, 767).question, 1);
-    SAME(pacer_query(5, 0, 65, log, 44, slot, length).question, 2);
-    SAME(pacer_query(4, 0, 65, log, 44, slot, length).question, 3);
-    SAME(pacer_query(0, 0, 4, log, 44, slot, length).question, 3);
-    SAME(pacer_query(0, PACER_ROWS, 65, log, 44, slot, length).question, 3);
-    SAME(pacer_query(0, PACER_SHARE, 1001, log, 44, slot, length).question, 3);
-    SAME(pacer_query(0, PACER_ROWS, 64, log, 44, slot, length).question, 4);
-    ANSWER(pacer_query(0, PACER_ROWS, 2, log, 45, slot, length), 10, 0, 0, 0, 0);
+    SAME(pacer_query(5, 0, 65, 1, log, 44, slot, 767).question, 1);
+    SAME(pacer_query(5, 0, 65, 1, log, 44, slot, length).question, 2);
+    SAME(pacer_query(4, 0, 65, 1, log, 44, slot, length).question, 3);
+    SAME(pacer_query(0, 0, 4, 1, log, 44, slot, length).question, 3);
+    SAME(pacer_query(0, PACER_ROWS, 65, 1, log, 44, slot, length).question, 3);
+    SAME(pacer_query(0, PACER_SHARE, 1001, 1, log, 44, slot, length).question, 3);
+    SAME(pacer_query(0, PACER_ROWS, 64, 1, log, 44, slot, length).question, 4);
+    ANSWER(pacer_query(0, PACER_ROWS, 2, 1, log, 45, slot, length), 10, 0, 0, 0, 0);
     BYTES(slot, before, length);
 
     /* A damaged third record: the index says which. */
     uint8_t damaged[45];
     memcpy(damaged, log, 45);
     damaged[2 * 9 + 2] = 8;
-    ANSWER(pacer_query(0, PACER_ROWS, 4, damaged, 45, slot, length), 7, 2, 0, 0, 0);
+    ANSWER(pacer_query(0, PACER_ROWS, 4, 1, damaged, 45, slot, length), 7, 2, 0, 0, 0);
     BYTES(slot, before, length);
 
     /* The empty log with c = 0. */
-    ANSWER(pacer_query(0, PACER_ROWS, 0, log, 0, slot, length), 0, 0, 0, 0, 0);
+    ANSWER(pacer_query(0, PACER_ROWS, 0, 1, log, 0, slot, length), 0, 0, 0, 0, 0);
 
     /* The worked case: c = 4, with the cuts weighed and every byte of the slot. */
     memcpy(slot, before, length);
-    ANSWER(pacer_query(PACER_SUM, PACER_ROWS, 4, log, 45, slot, length), 0, 0, 4, 11280, 16);
+    ANSWER(pacer_query(PACER_SUM, PACER_ROWS, 4, 1, log, 45, slot, length), 0, 0, 4, 11280, 16);
     BYTES(slot, slot_g, PACER_SLOT_BYTES);
     BYTES(slot + PACER_SLOT_BYTES, before + PACER_SLOT_BYTES, length - PACER_SLOT_BYTES);
 }
@@ -247,7 +248,8 @@ static void test_mean(const uint8_t *log)
     static uint8_t slot[PACER_SLOT_BYTES];
     static struct pacer_row list[PACER_ROW_PLACES];
 
-    ANSWER(pacer_query(PACER_MEAN, PACER_ROWS, 4, log, 45, slot, sizeof slot), 0, 0, 4, 25666667, 16);
+    ANSWER(pacer_query(PACER_MEAN, PACER_ROWS, 4, 1, log, 45, slot, sizeof slot), 0, 0, 4, 25666667,
+           16);
     const struct pacer_read_answer a = pacer_read_rows(slot, sizeof slot, list, PACER_ROW_PLACES);
     SAME(a.question, 0);
     SAME(a.kind, PACER_MEAN);
@@ -304,7 +306,7 @@ static void test_greatest(const uint8_t *log)
 
     for (size_t i = 0; i < sizeof cases / sizeof cases[0]; i++) {
         const struct pacer_query_answer a = pacer_query(PACER_GREATEST, cases[i].rule,
-                                                        cases[i].bound, log, 45, slot, sizeof slot);
+                                                        cases[i].bound, 1, log, 45, slot, sizeof slot);
         ANSWER(a, 0, 0, cases[i].rows, cases[i].error, cases[i].weighed);
         SAME(pacer_read(slot, sizeof slot).kind, PACER_GREATEST);
         SAME(pacer_read(slot, sizeof slot).error, cases[i].error);
@@ -315,7 +317,7 @@ static void test_greatest(const uint8_t *log)
     /* Loads 0 and 1 in one row: 1, with error 1; before it held 0, with the same error. */
     SAME(pacer_write_record(0, 0, 0, 0, two, 9).question, 0);
     SAME(pacer_write_record(0, 1, 1, 1, two + 9, 9).question, 0);
-    ANSWER(pacer_query(PACER_GREATEST, PACER_ROWS, 1, two, 18, slot, sizeof slot), 0, 0, 1, 1, 0);
+    ANSWER(pacer_query(PACER_GREATEST, PACER_ROWS, 1, 1, two, 18, slot, sizeof slot), 0, 0, 1, 1, 0);
     SAME(pacer_lookup(slot, sizeof slot, 0, 0).value, 1);
     read_slot_of_before(PACER_GREATEST, 1, 0);
 }
@@ -343,7 +345,7 @@ static void test_halves(void)
     for (size_t i = 0; i < sizeof cases / sizeof cases[0]; i++) {
         SAME(pacer_write_record(0, 0, 1, cases[i].loads[0], log, 9).question, 0);
         SAME(pacer_write_record(0, 1, 1, cases[i].loads[1], log + 9, 9).question, 0);
-        ANSWER(pacer_query(cases[i].kind, PACER_ROWS, 1, log, 18, slot, sizeof slot), 0, 0, 1,
+        ANSWER(pacer_query(cases[i].kind, PACER_ROWS, 1, 1, log, 18, slot, sizeof slot), 0, 0, 1,
                cases[i].error, 0);
         SAME(pacer_lookup(slot, sizeof slot, 0, 0).value, cases[i].value);
     }
@@ -351,7 +353,7 @@ static void test_halves(void)
     SAME(pacer_write_record(0, 0, 1, 0, log, 9).question, 0);
     SAME(pacer_write_record(0, 0, 0, 0, log + 9, 9).question, 0);
     SAME(pacer_write_record(0, 0, 0, 1, log + 18, 9).question, 0);
-    ANSWER(pacer_query(PACER_MEAN, PACER_ROWS, 1, log, 27, slot, sizeof slot), 0, 0, 1, 545, 0);
+    ANSWER(pacer_query(PACER_MEAN, PACER_ROWS, 1, 1, log, 27, slot, sizeof slot), 0, 0, 1, 545, 0);
     SAME(pacer_lookup(slot, sizeof slot, 0, 0).value, 17);
     read_slot_of_before(PACER_SUM, 5, 8);
 }
@@ -518,9 +520,9 @@ static void every_call(int line, const uint8_t *log, size_t length, uint8_t ques
         struct pacer_query_answer a;
         memcpy(slot, before, sizeof slot);
         if (call == 0)
-            a = pacer_query(PACER_SUM, PACER_ROWS, 64, log, length, slot, sizeof slot);
+            a = pacer_query(PACER_SUM, PACER_ROWS, 64, 1, log, length, slot, sizeof slot);
         else if (call == 1)
-            a = pacer_query(PACER_SUM, PACER_SHARE, 1000, log, length, slot, sizeof slot);
+            a = pacer_query(PACER_SUM, PACER_SHARE, 1000, 1, log, length, slot, sizeof slot);
         else if (call == 2)
             a = pacer_query_beats(PACER_SUM, 65535, 0, log, length, slot, sizeof slot);
         else
@@ -530,17 +532,17 @@ static void every_call(int line, const uint8_t *log, size_t length, uint8_t ques
         if (question != 0) {
             answer_at(line, a, (struct pacer_query_answer){question, index, 0, 0, 0});
             bytes_at(line, "slot", slot, before, sizeof slot);
-            checked_at(line, pacer_check(log, length, slot_g, sizeof slot_g), question, index);
+            checked_at(line, pacer_check(log, length, 1, slot_g, sizeof slot_g), question, index);
         } else {
             /* A slot by a bound passes with its log, and one by windows does not. */
-            checked_at(line, pacer_check(log, length, slot, sizeof slot), call < 2 ? 0 : 11, 0);
+            checked_at(line, pacer_check(log, length, 1, slot, sizeof slot), call < 2 ? 0 : 11, 0);
         }
     }
 
     for (size_t i = 0; i < PACER_SEGMENT_PLACES; i++)
         list[i] = (struct pacer_segment){9, 10, 11, 12};
     const struct pacer_segments_answer a =
-        pacer_segments(log, length, PACER_SUM, list, PACER_SEGMENT_PLACES);
+        pacer_segments(log, length, PACER_SUM, 1, list, PACER_SEGMENT_PLACES);
     same_at(line, "question of segments", a.question, question);
     same_at(line, "index of segments", a.index, index);
     if (question != 0) {
@@ -584,11 +586,11 @@ static void test_twins(const uint8_t *log)
     /* What comes before the records, and 10 and 20, which come after them. */
     memcpy(twins, log, 45);
     memcpy(twins + 45, log + 36, 9);
-    SAME(pacer_query(0, PACER_ROWS, 64, twins, 54, slot, 767).question, 1);
-    SAME(pacer_query(5, PACER_ROWS, 64, twins, 54, slot, sizeof slot).question, 2);
-    SAME(pacer_query(0, PACER_ROWS, 65, twins, 54, slot, sizeof slot).question, 3);
-    SAME(pacer_query(0, PACER_ROWS, 64, twins, 53, slot, sizeof slot).question, 4);
-    ANSWER(pacer_query(0, PACER_ROWS, 0, twins, 54, slot, sizeof slot), 21, 5, 0, 0, 0);
+    SAME(pacer_query(0, PACER_ROWS, 64, 1, twins, 54, slot, 767).question, 1);
+    SAME(pacer_query(5, PACER_ROWS, 64, 1, twins, 54, slot, sizeof slot).question, 2);
+    SAME(pacer_query(0, PACER_ROWS, 65, 1, twins, 54, slot, sizeof slot).question, 3);
+    SAME(pacer_query(0, PACER_ROWS, 64, 1, twins, 53, slot, sizeof slot).question, 4);
+    ANSWER(pacer_query(0, PACER_ROWS, 0, 1, twins, 54, slot, sizeof slot), 21, 5, 0, 0, 0);
     SAME(pacer_query_beats(0, 0, 0, twins, 54, slot, sizeof slot).question, 18);
     SAME(pacer_write_record(5, 0, 64, 9, twins, 9).question, 0);
     memcpy(twins + 9, twins, 9);
@@ -611,11 +613,11 @@ static void test_twins(const uint8_t *log)
      */
     for (uint16_t i = 0; i < 128; i++)
         SAME(pacer_write_record(7, i, (uint16_t)(1000 - i), 1000, many + 9 * i, 9).question, 0);
-    SAME(pacer_segments(many, 128 * 9, PACER_SUM, (struct pacer_segment[255]){{0}}, 255).count, 255);
+    SAME(pacer_segments(many, 128 * 9, PACER_SUM, 1, (struct pacer_segment[255]){{0}}, 255).count, 255);
     for (size_t i = 0; i < 127; i++) {
         memcpy(many + 127 * 9, many + i * 9, 9);
         const struct pacer_query_answer a =
-            pacer_query(PACER_SUM, PACER_ROWS, 1, many, 128 * 9, slot, sizeof slot);
+            pacer_query(PACER_SUM, PACER_ROWS, 1, 1, many, 128 * 9, slot, sizeof slot);
         ANSWER(a, 21, 127, 0, 0, 0);
     }
     memcpy(many + 128 * 9, many, 9);
@@ -672,8 +674,8 @@ static void test_without_twins(const uint8_t *log)
         BYTES(buffer, log, 45);
         BYTES(buffer + 45, before + 45, sizeof buffer - 45);
     }
-    ANSWER(pacer_query(PACER_SUM, PACER_ROWS, 4, twins, 54, slot, sizeof slot), 21, 5, 0, 0, 0);
-    ANSWER(pacer_query(PACER_SUM, PACER_ROWS, 4, buffer, 45, slot, sizeof slot), 0, 0, 4, 11280, 16);
+    ANSWER(pacer_query(PACER_SUM, PACER_ROWS, 4, 1, twins, 54, slot, sizeof slot), 21, 5, 0, 0, 0);
+    ANSWER(pacer_query(PACER_SUM, PACER_ROWS, 4, 1, buffer, 45, slot, sizeof slot), 0, 0, 4, 11280, 16);
     BYTES(slot, slot_g, PACER_SLOT_BYTES);
 
     /* What is kept has no twins: once more changes nothing. */
@@ -709,18 +711,21 @@ static void test_without_twins(const uint8_t *log)
 }
 
 /* The queries that are put to a log in every order, by their numbers. Log G has too many runs for the
- * first two.
+ * first two; with a memory of three frames it has as many as the tenth one has rows.
  */
-enum { ORDER_QUERIES = 15 };
+enum { ORDER_QUERIES = 19 };
 static struct pacer_query_answer order_query(size_t number, uint8_t kind, const uint8_t *log,
                                              uint8_t *slot, size_t length)
 {
     static const struct {
         uint8_t rule;
         uint16_t bound;
-    } bounds[9] = {
-        {PACER_ROWS, 0},  {PACER_ROWS, 2},  {PACER_ROWS, 3},    {PACER_ROWS, 4},    {PACER_ROWS, 5},
-        {PACER_ROWS, 64}, {PACER_SHARE, 0}, {PACER_SHARE, 281}, {PACER_SHARE, 282},
+        uint16_t width;
+    } bounds[13] = {
+        {PACER_ROWS, 0, 1},    {PACER_ROWS, 2, 1},    {PACER_ROWS, 3, 1},   {PACER_ROWS, 4, 1},
+        {PACER_ROWS, 5, 1},    {PACER_ROWS, 64, 1},   {PACER_SHARE, 0, 1},  {PACER_SHARE, 281, 1},
+        {PACER_SHARE, 282, 1}, {PACER_ROWS, 2, 3},    {PACER_ROWS, 4, 3},   {PACER_SHARE, 125, 60},
+        {PACER_ROWS, 64, PACER_MOST_WIDTH},
     };
     static const struct {
         uint16_t length;
@@ -728,14 +733,15 @@ static struct pacer_query_answer order_query(size_t number, uint8_t kind, const 
     } beats[4] = {{1, 0}, {4, 0}, {7, 3}, {65535, 6}};
     static const uint16_t firsts[] = {0, 4, 11}, lasts[] = {3, 9, 65535};
 
-    if (number < 9)
-        return pacer_query(kind, bounds[number].rule, bounds[number].bound, log, 45, slot, length);
     if (number < 13)
-        return pacer_query_beats(kind, beats[number - 9].length, beats[number - 9].start, log, 45,
+        return pacer_query(kind, bounds[number].rule, bounds[number].bound, bounds[number].width,
+                           log, 45, slot, length);
+    if (number < 17)
+        return pacer_query_beats(kind, beats[number - 13].length, beats[number - 13].start, log, 45,
                                  slot, length);
     /* Three scenes, and the last two of them. */
-    return pacer_query_scenes(kind, firsts + number - 13, 16 - number, lasts + number - 13,
-                              16 - number, log, 45, slot, length);
+    return pacer_query_scenes(kind, firsts + number - 17, 20 - number, lasts + number - 17,
+                              20 - number, log, 45, slot, length);
 }
 
 /* The five records of a log in the order with a number from 0 to 119; 0 is the order that they have. */
@@ -790,13 +796,15 @@ static void every_order(const uint8_t *log, size_t tens, size_t twenties)
             }
         }
 
+        static const uint16_t widths[] = {PACER_ONE_FRAME, 3, PACER_MOST_WIDTH};
         size_t count = 0;
-        for (size_t order = 0; order < 120; order++) {
+        for (size_t number = 0; number < 3 * 120; number++) {
+            const size_t order = number % 120;
             const struct pacer_segment untouched = {9, 10, 11, (uint32_t)order};
             for (size_t i = 0; i < PACER_SEGMENT_PLACES; i++)
                 list[i] = untouched;
-            const struct pacer_segments_answer a =
-                pacer_segments(orders[order], 45, kind, list, PACER_SEGMENT_PLACES);
+            const struct pacer_segments_answer a = pacer_segments(
+                orders[order], 45, kind, widths[number / 120], list, PACER_SEGMENT_PLACES);
             if (order == 0) {
                 count = a.count;
                 memcpy(first_list, list, sizeof first_list);
@@ -837,7 +845,7 @@ static void test_orders(const uint8_t *log)
     /* The worked case, and the rows by beats: every byte, from every order. */
     for (size_t order = 0; order < 120; order++) {
         order_records(log, order, ordered);
-        ANSWER(pacer_query(PACER_SUM, PACER_ROWS, 4, ordered, 45, slot, sizeof slot), 0, 0, 4, 11280,
+        ANSWER(pacer_query(PACER_SUM, PACER_ROWS, 4, 1, ordered, 45, slot, sizeof slot), 0, 0, 4, 11280,
                16);
         BYTES(slot, slot_g, PACER_SLOT_BYTES);
         ANSWER(pacer_query_beats(PACER_SUM, 4, 0, ordered, 45, slot, sizeof slot), 0, 0, 4, 0, 0);
@@ -882,20 +890,20 @@ static void test_check(const uint8_t *log)
     for (uint8_t kind = PACER_SUM; kind <= PACER_MEAN; kind++) {
         for (size_t i = 0; i < sizeof bounds / sizeof bounds[0]; i++) {
             const struct pacer_query_answer a =
-                pacer_query(kind, bounds[i].rule, bounds[i].bound, log, 45, slot, sizeof slot);
+                pacer_query(kind, bounds[i].rule, bounds[i].bound, 1, log, 45, slot, sizeof slot);
             SAME(a.question, 0);
             memcpy(before, slot, sizeof slot);
             for (size_t order = 0; order < 120; order++) {
                 order_records(log, order, ordered);
-                CHECKED(pacer_check(ordered, 45, slot, sizeof slot), 0, 0);
+                CHECKED(pacer_check(ordered, 45, 1, slot, sizeof slot), 0, 0);
             }
             BYTES(slot, before, sizeof slot);
             slot[4]++;
-            CHECKED(pacer_check(log, 45, slot, sizeof slot), 24, 0);
+            CHECKED(pacer_check(log, 45, 1, slot, sizeof slot), 24, 0);
 
             /* As many rows do no better. */
             const struct pacer_query_answer best =
-                pacer_query(kind, PACER_ROWS, (uint16_t)a.rows, log, 45, slot, sizeof slot);
+                pacer_query(kind, PACER_ROWS, (uint16_t)a.rows, 1, log, 45, slot, sizeof slot);
             SAME(best.question, 0);
             SAME(best.rows <= a.rows, 1);
             SAME(best.error <= a.error, 1);
@@ -915,18 +923,18 @@ static void test_check(const uint8_t *log)
         {26, 1, 16, 1},    {767, 1, 17, 0},  {0, 0x4C, 11, 0},  {1, 0x43, 11, 0},  {1, 0x53, 11, 0},
     };
     memcpy(slot, slot_g, sizeof slot_g);
-    CHECKED(pacer_check(log, 45, slot, PACER_SLOT_BYTES), 0, 0);
+    CHECKED(pacer_check(log, 45, 1, slot, PACER_SLOT_BYTES), 0, 0);
     for (size_t i = 0; i < sizeof cases / sizeof cases[0]; i++) {
         const uint8_t kept = slot[cases[i].byte];
         slot[cases[i].byte] = cases[i].content;
-        CHECKED(pacer_check(log, 45, slot, sizeof slot), cases[i].question, cases[i].index);
+        CHECKED(pacer_check(log, 45, 1, slot, sizeof slot), cases[i].question, cases[i].index);
         slot[cases[i].byte] = kept;
     }
 
     /* One above 242, the mean of five frames, has an error of 5 more. */
     slot[30] = 0xF3;
     slot[4] = 0x15;
-    CHECKED(pacer_check(log, 45, slot, sizeof slot), 0, 0);
+    CHECKED(pacer_check(log, 45, 1, slot, sizeof slot), 0, 0);
     slot[30] = 0xF2;
     slot[4] = 0x10;
 
@@ -935,60 +943,61 @@ static void test_check(const uint8_t *log)
     slot[3] = 5;
     slot[28] = 3;
     slot[37] = 4;
-    CHECKED(pacer_check(log, 45, slot, sizeof slot), 0, 0);
+    CHECKED(pacer_check(log, 45, 1, slot, sizeof slot), 0, 0);
     slot[28] = 2;
-    CHECKED(pacer_check(log, 45, slot, sizeof slot), 22, 0);
+    CHECKED(pacer_check(log, 45, 1, slot, sizeof slot), 22, 0);
     slot[28] = 4;
-    CHECKED(pacer_check(log, 45, slot, sizeof slot), 16, 2);
+    CHECKED(pacer_check(log, 45, 1, slot, sizeof slot), 16, 2);
 
     /* Kind 3, four rows, the second one 210 with the error 400: 209 is short of frame 6, whatever the
      * error is, and 211 is not.
      */
-    ANSWER(pacer_query(PACER_GREATEST, PACER_ROWS, 4, log, 45, slot, PACER_SLOT_BYTES), 0, 0, 4, 400, 10);
+    ANSWER(pacer_query(PACER_GREATEST, PACER_ROWS, 4, 1, log, 45, slot, PACER_SLOT_BYTES), 0, 0, 4,
+           400, 10);
     slot[30] = 209;
-    CHECKED(pacer_check(log, 45, slot, PACER_SLOT_BYTES), 23, 0);
+    CHECKED(pacer_check(log, 45, 1, slot, PACER_SLOT_BYTES), 23, 0);
     slot[4] = 325 - 256;
-    CHECKED(pacer_check(log, 45, slot, PACER_SLOT_BYTES), 23, 0);
+    CHECKED(pacer_check(log, 45, 1, slot, PACER_SLOT_BYTES), 23, 0);
     slot[2] = PACER_LEAST;
-    CHECKED(pacer_check(log, 45, slot, PACER_SLOT_BYTES), 24, 0);
+    CHECKED(pacer_check(log, 45, 1, slot, PACER_SLOT_BYTES), 24, 0);
     slot[2] = PACER_GREATEST;
     slot[30] = 211;
-    CHECKED(pacer_check(log, 45, slot, PACER_SLOT_BYTES), 24, 0);
+    CHECKED(pacer_check(log, 45, 1, slot, PACER_SLOT_BYTES), 24, 0);
     slot[4] = 485 - 256;
-    CHECKED(pacer_check(log, 45, slot, PACER_SLOT_BYTES), 0, 0);
+    CHECKED(pacer_check(log, 45, 1, slot, PACER_SLOT_BYTES), 0, 0);
     slot[50] = 1;
     slot[30] = 209;
-    CHECKED(pacer_check(log, 45, slot, PACER_SLOT_BYTES), 22, 0);
+    CHECKED(pacer_check(log, 45, 1, slot, PACER_SLOT_BYTES), 22, 0);
 
     /* By windows. */
-    CHECKED(pacer_check(log, 45, beats_slot_g, sizeof beats_slot_g), 11, 0);
+    CHECKED(pacer_check(log, 45, 1, beats_slot_g, sizeof beats_slot_g), 11, 0);
 
     /* The questions in order: 1, then the log's, then the slot's. */
     memcpy(damaged, log, 45);
     memcpy(damaged + 45, log, 9);
-    CHECKED(pacer_check(damaged, 53, beats_slot_g, 767), 1, 0);
-    CHECKED(pacer_check(damaged, 53, beats_slot_g, sizeof beats_slot_g), 4, 0);
-    CHECKED(pacer_check(damaged, 54, beats_slot_g, sizeof beats_slot_g), 21, 5);
+    CHECKED(pacer_check(damaged, 53, 1, beats_slot_g, 767), 1, 0);
+    CHECKED(pacer_check(damaged, 53, 1, beats_slot_g, sizeof beats_slot_g), 4, 0);
+    CHECKED(pacer_check(damaged, 54, 1, beats_slot_g, sizeof beats_slot_g), 21, 5);
     damaged[2 * 9 + 2] = 8;
-    CHECKED(pacer_check(damaged, 54, beats_slot_g, sizeof beats_slot_g), 7, 2);
-    CHECKED(pacer_check(damaged, 18, beats_slot_g, sizeof beats_slot_g), 11, 0);
-    CHECKED(pacer_check(damaged, 18, slot_g, sizeof slot_g), 22, 0);
+    CHECKED(pacer_check(damaged, 54, 1, beats_slot_g, sizeof beats_slot_g), 7, 2);
+    CHECKED(pacer_check(damaged, 18, 1, beats_slot_g, sizeof beats_slot_g), 11, 0);
+    CHECKED(pacer_check(damaged, 18, 1, slot_g, sizeof slot_g), 22, 0);
 
     /* The empty log: with no row it passes, with an error or with rows it does not. */
     fill(slot, sizeof slot);
-    ANSWER(pacer_query(PACER_COUNT, PACER_ROWS, 0, log, 0, slot, sizeof slot), 0, 0, 0, 0, 0);
-    CHECKED(pacer_check(log, 0, slot, sizeof slot), 0, 0);
-    CHECKED(pacer_check(log, 45, slot, sizeof slot), 22, 0);
-    CHECKED(pacer_check(log, 0, slot_g, sizeof slot_g), 22, 0);
+    ANSWER(pacer_query(PACER_COUNT, PACER_ROWS, 0, 1, log, 0, slot, sizeof slot), 0, 0, 0, 0, 0);
+    CHECKED(pacer_check(log, 0, 1, slot, sizeof slot), 0, 0);
+    CHECKED(pacer_check(log, 45, 1, slot, sizeof slot), 22, 0);
+    CHECKED(pacer_check(log, 0, 1, slot_g, sizeof slot_g), 22, 0);
     slot[11] = 1;
-    CHECKED(pacer_check(log, 0, slot, sizeof slot), 24, 0);
+    CHECKED(pacer_check(log, 0, 1, slot, sizeof slot), 24, 0);
 
     /* A slot and its log may lie over each other: here the log is the end of a longer slot. */
     uint8_t both[PACER_SLOT_BYTES + 45];
     memcpy(both, slot_g, sizeof slot_g);
     memcpy(both + PACER_SLOT_BYTES, log, 45);
-    CHECKED(pacer_check(both + PACER_SLOT_BYTES, 45, both, sizeof both), 0, 0);
-    CHECKED(pacer_check(both, PACER_SLOT_BYTES, both, sizeof both), 4, 0);
+    CHECKED(pacer_check(both + PACER_SLOT_BYTES, 45, 1, both, sizeof both), 0, 0);
+    CHECKED(pacer_check(both, PACER_SLOT_BYTES, 1, both, sizeof both), 4, 0);
 
     /* All frames of all groups with load 0 in rows of 128,000: the greatest error that there is,
      * 8,589,934,592,000,000.
@@ -1004,8 +1013,248 @@ static void test_check(const uint8_t *log)
     for (uint64_t most = UINT64_C(8589934592000000), wrong = 0; wrong < 2; wrong++) {
         for (size_t i = 0; i < 8; i++)
             error[i] = (uint8_t)((most + wrong) >> (8 * i));
-        CHECKED(pacer_check(everywhere, sizeof everywhere, slot, sizeof slot), wrong ? 24 : 0, 0);
+        CHECKED(pacer_check(everywhere, sizeof everywhere, 1, slot, sizeof slot), wrong ? 24 : 0, 0);
     }
+}
+
+/* Log G with a memory of three frames: a record counts in its own frames and in two behind them,
+ *
+ *     group 0    100 in frames 0 to 5,   of 0 to 3
+ *                200 in frames 2 to 7,   of 2 to 5
+ *                210 in frames 6 to 8,   of 6
+ *                 50 in frames 9 to 12,  of 9 and 10
+ *     group 1      7 in frames 0 to 2,   of 0
+ *
+ * so that the sums of group 0 are 100 in frames 0 and 1, 100 + 200 in 2 to 5, 200 + 210 in 6 and 7, 210
+ * in 8 and 50 in 9 to 12. Frames 7 and 8 are covered now, so that it is one run. The other kinds: counts
+ * of 1, 2, 2, 1 and 1; least loads of 100, 100, 200, 210 and 50; greatest ones of 100, 200, 210, 210 and
+ * 50; and means of 100, 150, 205, 210 and 50.
+ */
+static const struct {
+    size_t count;
+    struct pacer_segment segments[6];
+} memory_segments_g[5] = {
+    {6, {{0, 0, 1, 100}, {0, 2, 5, 300}, {0, 6, 7, 410}, {0, 8, 8, 210}, {0, 9, 12, 50}, {1, 0, 2, 7}}},
+    {4, {{0, 0, 1, 1}, {0, 2, 7, 2}, {0, 8, 12, 1}, {1, 0, 2, 1}}},
+    {5, {{0, 0, 5, 100}, {0, 6, 7, 200}, {0, 8, 8, 210}, {0, 9, 12, 50}, {1, 0, 2, 7}}},
+    {5, {{0, 0, 1, 100}, {0, 2, 5, 200}, {0, 6, 8, 210}, {0, 9, 12, 50}, {1, 0, 2, 7}}},
+    {6, {{0, 0, 1, 10000}, {0, 2, 5, 15000}, {0, 6, 7, 20500}, {0, 8, 8, 21000}, {0, 9, 12, 5000},
+         {1, 0, 2, 700}}},
+};
+
+/* The slot's bytes for four rows of the sums. Of the frames of group 0 the best three rows are 0 to 1, 2
+ * to 8 and 9 to 12. The middle one has the mean (4 * 300 + 2 * 410 + 210) / 7 = 2,230 / 7, nearest to 319,
+ * and the error 4 * 19^2 + 2 * 91^2 + 109^2 = 1,444 + 16,562 + 11,881 = 29,887, which is 74BF. The next
+ * best, with frame 8 in the last row, are 4 * 37^2 + 2 * 73^2 = 16,134 for 337 in frames 2 to 7 and
+ * 128^2 + 4 * 32^2 = 20,480 for 82 in 8 to 12.
+ */
+static const uint8_t memory_slot_g[PACER_SLOT_BYTES] = {
+    0x50, 0x48, 0x00, 0x04, 0xBF, 0x74, 0x00, 0x00, 0x00, 0x00, 0x00, 0x00,
+    0x50, 0x52, 0x00, 0x00, 0x00, 0x01, 0x00, 0x64, 0x00, 0x00, 0x00,
+    0x50, 0x52, 0x00, 0x02, 0x00, 0x08, 0x00, 0x3F, 0x01, 0x00, 0x00,
+    0x50, 0x52, 0x00, 0x09, 0x00, 0x0C, 0x00, 0x32, 0x00, 0x00, 0x00,
+    0x50, 0x52, 0x01, 0x00, 0x00, 0x02, 0x00, 0x07, 0x00, 0x00, 0x00,
+};
+
+/* Compares the segments of a log with some width. */
+static void listed_at(int line, const uint8_t *log, size_t length, uint8_t kind, uint16_t width,
+                      const struct pacer_segment *expected, size_t count)
+{
+    static struct pacer_segment list[PACER_SEGMENT_PLACES + 1];
+    const size_t places = sizeof list / sizeof list[0];
+
+    for (size_t i = 0; i < places; i++)
+        list[i] = (struct pacer_segment){9, 10, 11, 12};
+    const struct pacer_segments_answer a = pacer_segments(log, length, kind, width, list, places);
+    same_at(line, "question of segments", a.question, 0);
+    same_at(line, "index of segments", a.index, 0);
+    same_at(line, "count", a.count, count);
+    for (size_t i = 0; i < places; i++) {
+        const struct pacer_segment due =
+            i < count ? expected[i] : (struct pacer_segment){9, 10, 11, 12};
+        same_at(line, "group of a segment", list[i].group, due.group);
+        same_at(line, "first of a segment", list[i].first, due.first);
+        same_at(line, "last of a segment", list[i].last, due.last);
+        same_at(line, "value of a segment", list[i].value, due.value);
+    }
+}
+#define LISTED(log, length, kind, width, ...)                                                    \
+    listed_at(__LINE__, log, length, kind, width, (struct pacer_segment[]){__VA_ARGS__},         \
+              sizeof((struct pacer_segment[]){__VA_ARGS__}) / sizeof(struct pacer_segment))
+
+/* Load with a memory. */
+static void test_memory(const uint8_t *log)
+{
+    static uint8_t slot[PACER_SLOT_BYTES + 32], before[PACER_SLOT_BYTES + 32];
+    static struct pacer_segment list[PACER_SEGMENT_PLACES];
+    static const uint16_t wrong[] = {0, PACER_MOST_WIDTH + 1, 65535};
+    uint8_t two[18], ordered[45];
+
+    SAME(PACER_ONE_FRAME, 1);
+    SAME(PACER_MOST_WIDTH, 4096);
+
+    /* All kinds with three frames. */
+    for (uint8_t kind = PACER_SUM; kind <= PACER_MEAN; kind++)
+        listed_at(__LINE__, log, 45, kind, 3, memory_segments_g[kind].segments,
+                  memory_segments_g[kind].count);
+
+    /* One frame is what there is without a memory; with two frame 8 stays uncovered; with eleven all that
+     * was before is remembered in frame 10; with the most the records are remembered to frames 4,098,
+     * 4,100, 4,101, 4,105 and, in group 1, 4,095.
+     */
+    listed_at(__LINE__, log, 45, PACER_SUM, PACER_ONE_FRAME, segments_g, 6);
+    LISTED(log, 45, PACER_SUM, 2, {0, 0, 1, 100}, {0, 2, 4, 300}, {0, 5, 5, 200}, {0, 6, 6, 410},
+           {0, 7, 7, 210}, {0, 9, 11, 50}, {1, 0, 1, 7});
+    LISTED(log, 45, PACER_SUM, 11, {0, 0, 1, 100}, {0, 2, 5, 300}, {0, 6, 8, 510}, {0, 9, 13, 560},
+           {0, 14, 15, 460}, {0, 16, 16, 260}, {0, 17, 20, 50}, {1, 0, 10, 7});
+    LISTED(log, 45, PACER_SUM, PACER_MOST_WIDTH, {0, 0, 1, 100}, {0, 2, 5, 300}, {0, 6, 8, 510},
+           {0, 9, 4098, 560}, {0, 4099, 4100, 460}, {0, 4101, 4101, 260}, {0, 4102, 4105, 50},
+           {1, 0, 4095, 7});
+
+    /* Limits and shares. Two rows: 202 for all of group 0, whose mean is 2,630 / 13. Three: 270 in frames
+     * 0 to 8. 29,887 are just above 125 thousandths of 238,232.
+     */
+    static const struct {
+        uint8_t rule;
+        uint16_t bound;
+        size_t rows;
+        uint64_t error;
+    } cases[] = {
+        {PACER_ROWS, 2, 2, 238232}, {PACER_ROWS, 3, 3, 104200},   {PACER_ROWS, 4, 4, 29887},
+        {PACER_ROWS, 5, 5, 16134},  {PACER_ROWS, 6, 6, 0},        {PACER_ROWS, 64, 6, 0},
+        {PACER_SHARE, 126, 4, 29887}, {PACER_SHARE, 125, 5, 16134}, {PACER_SHARE, 1000, 2, 238232},
+    };
+    for (size_t i = 0; i < sizeof cases / sizeof cases[0]; i++) {
+        const struct pacer_query_answer a = pacer_query(PACER_SUM, cases[i].rule, cases[i].bound, 3, log,
+                                                        45, slot, sizeof slot);
+        SAME(a.question, 0);
+        SAME(a.rows, cases[i].rows);
+        SAME(a.error, cases[i].error);
+        CHECKED(pacer_check(log, 45, 3, slot, sizeof slot), 0, 0);
+    }
+    fill(before, sizeof before);
+    memcpy(slot, before, sizeof slot);
+    ANSWER(pacer_query(PACER_SUM, PACER_ROWS, 1, 3, log, 45, slot, sizeof slot), 10, 0, 0, 0, 0);
+    BYTES(slot, before, sizeof slot);
+
+    /* Every byte of the slot, and every order of the records. */
+    for (size_t order = 0; order < 120; order++) {
+        order_records(log, order, ordered);
+        memcpy(slot, before, sizeof slot);
+        ANSWER(pacer_query(PACER_SUM, PACER_ROWS, 4, 3, ordered, 45, slot, sizeof slot), 0, 0, 4, 29887,
+               21);
+        BYTES(slot, memory_slot_g, PACER_SLOT_BYTES);
+        BYTES(slot + PACER_SLOT_BYTES, before + PACER_SLOT_BYTES, sizeof slot - PACER_SLOT_BYTES);
+        CHECKED(pacer_check(ordered, 45, 3, slot, sizeof slot), 0, 0);
+    }
+    SAME(pacer_lookup(slot, sizeof slot, 0, 8).value, 319);
+    SAME(pacer_lookup(slot, sizeof slot, 0, 13).covered, 0);
+
+    /* Kind 3: 210 in frames 2 to 8 is 10 above four of them. */
+    SAME(pacer_query(PACER_GREATEST, PACER_ROWS, 4, 3, log, 45, slot, sizeof slot).error, 400);
+    SAME(pacer_lookup(slot, sizeof slot, 0, 2).value, 210);
+
+    /* A slot is of the width that it was made with: with another one G covers other frames. */
+    static const uint16_t widths[] = {1, 2, 3, 4, 60, 4095, PACER_MOST_WIDTH};
+    const size_t count = sizeof widths / sizeof widths[0];
+    for (uint8_t kind = PACER_SUM; kind <= PACER_MEAN; kind++) {
+        for (size_t i = 0; i < count; i++) {
+            const struct pacer_query_answer a =
+                pacer_query(kind, PACER_ROWS, 4, widths[i], log, 45, slot, sizeof slot);
+            SAME(a.question, 0);
+            for (size_t j = 0; j < count; j++)
+                CHECKED(pacer_check(log, 45, widths[j], slot, sizeof slot), i == j ? 0 : 22, 0);
+            slot[4]++;
+            CHECKED(pacer_check(log, 45, widths[i], slot, sizeof slot), 24, 0);
+        }
+    }
+
+    /* A load of 200 in all frames and of 900 in frames 30 and 31, remembered for ten frames: with nine
+     * frame 40 has 200 again, where the row has 900, and with eleven frame 41 still has 900.
+     */
+    SAME(pacer_write_record(0, 0, 65535, 200, two, 9).question, 0);
+    SAME(pacer_write_record(0, 30, 31, 900, two + 9, 9).question, 0);
+    LISTED(two, 18, PACER_GREATEST, 10, {0, 0, 29, 200}, {0, 30, 40, 900}, {0, 41, 65535, 200});
+    SAME(pacer_query(PACER_GREATEST, PACER_ROWS, 3, 10, two, 18, slot, sizeof slot).error, 0);
+    CHECKED(pacer_check(two, 18, 10, slot, sizeof slot), 0, 0);
+    CHECKED(pacer_check(two, 18, 9, slot, sizeof slot), 24, 0);
+    CHECKED(pacer_check(two, 18, 11, slot, sizeof slot), 23, 0);
+    SAME(pacer_query(PACER_SUM, PACER_ROWS, 3, 10, two, 18, slot, sizeof slot).error, 0);
+    CHECKED(pacer_check(two, 18, 11, slot, sizeof slot), 24, 0);
+
+    /* There is no frame behind 65,535. Frame 65,533 is two before it, and 61,440 is 4,095. */
+    SAME(pacer_write_record(6, 61440, 61440, 5, two, 9).question, 0);
+    SAME(pacer_write_record(7, 65533, 65533, 9, two + 9, 9).question, 0);
+    LISTED(two, 18, PACER_SUM, 2, {6, 61440, 61441, 5}, {7, 65533, 65534, 9});
+    LISTED(two, 18, PACER_SUM, 3, {6, 61440, 61442, 5}, {7, 65533, 65535, 9});
+    LISTED(two, 18, PACER_SUM, 4095, {6, 61440, 65534, 5}, {7, 65533, 65535, 9});
+    LISTED(two, 18, PACER_SUM, 4096, {6, 61440, 65535, 5}, {7, 65533, 65535, 9});
+    SAME(pacer_write_record(6, 65535, 65535, 5, two, 9).question, 0);
+    LISTED(two, 9, PACER_COUNT, 60, {6, 65535, 65535, 1});
+
+    /* Records that end in different frames are no twins, also where both are remembered to the last. */
+    SAME(pacer_write_record(4, 65000, 65533, 7, two, 9).question, 0);
+    SAME(pacer_write_record(4, 65000, 65534, 7, two + 9, 9).question, 0);
+    LISTED(two, 18, PACER_SUM, 2, {4, 65000, 65534, 14}, {4, 65535, 65535, 7});
+    LISTED(two, 18, PACER_SUM, 3, {4, 65000, 65535, 14});
+    ANSWER(pacer_query(PACER_SUM, PACER_ROWS, 1, 60, two, 18, slot, sizeof slot), 0, 0, 1, 0, 0);
+    SAME(pacer_lookup(slot, sizeof slot, 4, 65535).value, 14);
+    CHECKED(pacer_check(two, 18, 60, slot, sizeof slot), 0, 0);
+    memcpy(two + 9, two, 9);
+    ANSWER(pacer_query(PACER_SUM, PACER_ROWS, 1, 60, two, 18, slot, sizeof slot), 21, 1, 0, 0, 0);
+
+    /* A gap of three frames, 10 to 12, is closed from four frames on. */
+    SAME(pacer_write_record(2, 0, 9, 5, two, 9).question, 0);
+    SAME(pacer_write_record(2, 13, 13, 5, two + 9, 9).question, 0);
+    LISTED(two, 18, PACER_SUM, 3, {2, 0, 11, 5}, {2, 13, 15, 5});
+    LISTED(two, 18, PACER_SUM, 4, {2, 0, 16, 5});
+    LISTED(two, 18, PACER_SUM, 5, {2, 0, 12, 5}, {2, 13, 13, 10}, {2, 14, 17, 5});
+
+    /* Question 25: behind 1, 2 and 3, and ahead of the log's. Nothing lent is changed. */
+    memcpy(slot, before, sizeof slot);
+    for (size_t i = 0; i < PACER_SEGMENT_PLACES; i++)
+        list[i] = (struct pacer_segment){9, 10, 11, 12};
+    for (size_t i = 0; i < sizeof wrong / sizeof wrong[0]; i++) {
+        const uint16_t width = wrong[i];
+        SAME(pacer_query(5, 0, 65, width, log, 44, slot, 767).question, 1);
+        SAME(pacer_query(5, 0, 65, width, log, 44, slot, sizeof slot).question, 2);
+        SAME(pacer_query(4, 0, 65, width, log, 44, slot, sizeof slot).question, 3);
+        SAME(pacer_query(0, 0, 4, width, log, 44, slot, sizeof slot).question, 3);
+        SAME(pacer_query(0, PACER_ROWS, 65, width, log, 44, slot, sizeof slot).question, 3);
+        SAME(pacer_query(0, PACER_SHARE, 1001, width, log, 44, slot, sizeof slot).question, 3);
+        ANSWER(pacer_query(0, PACER_ROWS, 64, width, log, 44, slot, sizeof slot), 25, 0, 0, 0, 0);
+        ANSWER(pacer_query(0, PACER_SHARE, 0, width, log, 45, slot, sizeof slot), 25, 0, 0, 0, 0);
+        ANSWER(pacer_query(0, PACER_ROWS, 0, width, two, 18, slot, sizeof slot), 25, 0, 0, 0, 0);
+        SAME(pacer_segments(log, 44, 5, width, list, 254).question, 1);
+        SAME(pacer_segments(log, 44, 5, width, list, 255).question, 2);
+        SAME(pacer_segments(log, 44, 4, width, list, 255).question, 25);
+        SAME(list[0].value, 12);
+        const struct pacer_segments_answer a = pacer_segments(log, 45, 4, width, list, 255);
+        SAME(a.question, 25);
+        SAME(a.index, 0);
+        SAME(a.count, 0);
+        SAME(list[0].value, 12);
+        CHECKED(pacer_check(log, 44, width, slot_g, 767), 1, 0);
+        CHECKED(pacer_check(log, 44, width, slot_g, sizeof slot_g), 25, 0);
+        CHECKED(pacer_check(log, 45, width, slot_g, sizeof slot_g), 25, 0);
+        CHECKED(pacer_check(log, 45, width, beats_slot_g, sizeof beats_slot_g), 25, 0);
+    }
+    SAME(pacer_query(0, PACER_ROWS, 64, PACER_MOST_WIDTH, log, 44, slot, sizeof slot).question, 4);
+    SAME(pacer_segments(log, 44, 4, PACER_MOST_WIDTH, list, 255).question, 4);
+    CHECKED(pacer_check(log, 44, PACER_MOST_WIDTH, slot_g, sizeof slot_g), 4, 0);
+    CHECKED(pacer_check(log, 45, PACER_MOST_WIDTH, beats_slot_g, sizeof beats_slot_g), 11, 0);
+    CHECKED(pacer_check(log, 45, PACER_MOST_WIDTH, slot_g, sizeof slot_g), 22, 0);
+    BYTES(slot, before, sizeof slot);
+    for (size_t i = 0; i < PACER_SEGMENT_PLACES; i++) {
+        SAME(list[i].group, 9);
+        SAME(list[i].first, 10);
+        SAME(list[i].last, 11);
+        SAME(list[i].value, 12);
+    }
+
+    /* No record: there is nothing to remember. */
+    ANSWER(pacer_query(PACER_SUM, PACER_ROWS, 0, 60, log, 0, slot, sizeof slot), 0, 0, 0, 0, 0);
+    CHECKED(pacer_check(log, 0, PACER_MOST_WIDTH, slot, sizeof slot), 0, 0);
 }
 
 static void test_read(uint8_t *slot, size_t length)
@@ -1165,6 +1414,7 @@ int main(void)
     test_without_twins(log);
     test_orders(log);
     test_check(log);
+    test_memory(log);
     test_read(slot, sizeof slot);
     test_read_rows(slot, sizeof slot);
     test_row_at(slot, sizeof slot);

@@ -55,6 +55,7 @@ static uint8_t log_bytes[128 * PACER_RECORD_BYTES];
 static size_t log_length;
 static uint8_t kind, rule;
 static uint16_t bound;
+static uint16_t width = PACER_ONE_FRAME;
 static uint16_t beat, start;
 static uint16_t firsts[PACER_SCENE_PLACES], lasts[PACER_SCENE_PLACES];
 static size_t scenes;
@@ -76,17 +77,17 @@ static uint8_t question;
     }
 CALL(write_record, pacer_write_record(7, 0, 65535, 1000, record, sizeof record))
 CALL(without_twins, pacer_without_twins(log_bytes, log_length, kept, sizeof kept))
-CALL(query, pacer_query(kind, rule, bound, log_bytes, log_length, slot, sizeof slot))
+CALL(query, pacer_query(kind, rule, bound, width, log_bytes, log_length, slot, sizeof slot))
 CALL(query_beats, pacer_query_beats(kind, beat, start, log_bytes, log_length, slot, sizeof slot))
 CALL(query_scenes, pacer_query_scenes(kind, firsts, scenes, lasts, scenes, log_bytes, log_length,
                                       slot, sizeof slot))
 CALL(segments,
-     pacer_segments(log_bytes, log_length, kind, segment_list, PACER_SEGMENT_PLACES))
+     pacer_segments(log_bytes, log_length, kind, width, segment_list, PACER_SEGMENT_PLACES))
 CALL(read, pacer_read(slot, sizeof slot))
 CALL(read_rows, pacer_read_rows(slot, sizeof slot, row_list, PACER_ROW_PLACES))
 CALL(row_at, pacer_row_at(slot, sizeof slot, number))
 CALL(lookup, pacer_lookup(slot, sizeof slot, 0, (uint16_t)number))
-CALL(check, pacer_check(log_bytes, log_length, slot, sizeof slot))
+CALL(check, pacer_check(log_bytes, log_length, width, slot, sizeof slot))
 
 /* A number that looks random. */
 static unsigned noise(unsigned i)
@@ -94,7 +95,9 @@ static unsigned noise(unsigned i)
     return (i * 2654435761u) >> 16;
 }
 
-/* Makes a log with n segments in one run. */
+/* Makes a log with n segments in one run. With a memory of so many frames, at most 255, all frames are as
+ * many times as far apart: there are as many segments again, each so many times as long.
+ */
 static void make_log(unsigned n)
 {
     unsigned count = n <= 128 ? n : (n + 1) / 2;
@@ -104,10 +107,34 @@ static void make_log(unsigned n)
         unsigned first = n <= 128 ? i : 2 * i;
         unsigned last = n <= 128 ? i : 2 * i + 2;
         unsigned load = 1 + noise(i) % 400 * 2 + i % 2;
-        pacer_write_record(0, (uint16_t)first, (uint16_t)last, (uint16_t)load,
+        pacer_write_record(0, (uint16_t)(first * width), (uint16_t)(last * width), (uint16_t)load,
                            log_bytes + PACER_RECORD_BYTES * i, PACER_RECORD_BYTES);
     }
     log_length = PACER_RECORD_BYTES * count;
+}
+
+/* Makes a log with at most n segments in one run by a memory of the most frames: records of one frame
+ * each, one after the other, that are all remembered in the last one's frame. Sums rise and then fall.
+ */
+static void make_remembered_log(unsigned n)
+{
+    unsigned count = (n + 1) / 2;
+    for (unsigned i = 0; i < count; i++)
+        pacer_write_record(0, (uint16_t)i, (uint16_t)i, (uint16_t)(1 + noise(i) % 1000),
+                           log_bytes + PACER_RECORD_BYTES * i, PACER_RECORD_BYTES);
+    log_length = PACER_RECORD_BYTES * count;
+}
+
+/* The widths that a log of n segments is made with: none, a second's, and the most. */
+static const uint16_t widths[] = {PACER_ONE_FRAME, 60, PACER_MOST_WIDTH};
+enum { WIDTHS = sizeof widths / sizeof widths[0] };
+static void make_log_with(uint16_t memory, unsigned n)
+{
+    width = memory;
+    if (memory == PACER_MOST_WIDTH)
+        make_remembered_log(n);
+    else
+        make_log(n);
 }
 
 /* Makes a log of 128 records of one group that cover all frames together. */
@@ -154,7 +181,7 @@ static void row(const char *what, size_t needed, size_t said)
     }
 }
 
-/* All kinds and bounds on a log of n segments, and refusals by questions 6, 10 and 21. */
+/* All kinds, bounds and widths on a log of n segments, and refusals by questions 6, 10, 21 and 25. */
 static size_t query_need(unsigned n)
 {
     static const struct {
@@ -166,21 +193,26 @@ static size_t query_need(unsigned n)
         {PACER_ROWS, 64, 0},   {PACER_SHARE, 1000, 0}, {PACER_SHARE, 900, 0},
     };
     size_t needed = 0;
-    make_log(n);
-    for (kind = PACER_SUM; kind <= PACER_MEAN; kind++) {
-        for (size_t i = 0; i < sizeof bounds / sizeof bounds[0]; i++) {
-            rule = bounds[i].rule;
-            bound = bounds[i].bound;
-            most(&needed, query, bounds[i].question);
+    for (size_t memory = 0; memory < WIDTHS; memory++) {
+        make_log_with(widths[memory], n);
+        for (kind = PACER_SUM; kind <= PACER_MEAN; kind++) {
+            for (size_t i = 0; i < sizeof bounds / sizeof bounds[0]; i++) {
+                rule = bounds[i].rule;
+                bound = bounds[i].bound;
+                most(&needed, query, bounds[i].question);
+            }
         }
     }
+    make_log_with(PACER_ONE_FRAME, n);
     log_bytes[0]++;
     kind = PACER_SUM;
     most(&needed, query, 6);
     log_bytes[0]--;
     make_twin();
     most(&needed, query, 21);
-    make_log(n);
+    width = 0;
+    most(&needed, query, 25);
+    make_log_with(PACER_ONE_FRAME, n);
     return needed;
 }
 
@@ -245,19 +277,25 @@ static size_t scenes_need(void)
     return needed;
 }
 
-/* The segments of 255 in all kinds, and refusals by questions 6 and 21. */
+/* The segments of 255 in all kinds and widths, and refusals by questions 6, 21 and 25. */
 static size_t segments_need(void)
 {
     size_t needed = 0;
-    make_log(255);
-    for (kind = PACER_SUM; kind <= PACER_MEAN; kind++)
-        most(&needed, segments, 0);
+    for (size_t memory = 0; memory < WIDTHS; memory++) {
+        make_log_with(widths[memory], 255);
+        for (kind = PACER_SUM; kind <= PACER_MEAN; kind++)
+            most(&needed, segments, 0);
+    }
+    make_log_with(PACER_ONE_FRAME, 255);
     kind = PACER_SUM;
     log_bytes[0]++;
     most(&needed, segments, 6);
     log_bytes[0]--;
     make_twin();
     most(&needed, segments, 21);
+    width = PACER_MOST_WIDTH + 1;
+    most(&needed, segments, 25);
+    width = PACER_ONE_FRAME;
     return needed;
 }
 
@@ -299,16 +337,16 @@ static void make_slot(int by_windows)
         query();
 }
 
-/* Slots of one row and of 64 held to logs of 1, 6 and 255 segments in all kinds, and to the empty one;
- * and refusals by questions 6, 11, 17, 21 and 22 to 24.
+/* Slots of one row and of 64 held to logs of 1, 6 and 255 segments in all kinds and widths, and to the
+ * empty one; and refusals by questions 6, 11, 17, 21 and 22 to 25.
  */
 static size_t check_need(void)
 {
     static const unsigned sizes[] = {1, 6, 255};
     size_t needed = 0;
     rule = PACER_ROWS;
-    for (size_t i = 0; i < sizeof sizes / sizeof sizes[0]; i++) {
-        make_log(sizes[i]);
+    for (size_t i = 0; i < WIDTHS * sizeof sizes / sizeof sizes[0]; i++) {
+        make_log_with(widths[i % WIDTHS], sizes[i / WIDTHS]);
         for (kind = PACER_SUM; kind <= PACER_MEAN; kind++) {
             for (bound = 1; bound <= 64; bound += 63) {
                 query();
@@ -318,6 +356,7 @@ static size_t check_need(void)
             }
         }
     }
+    make_log_with(PACER_ONE_FRAME, 255);
     kind = PACER_GREATEST;
     bound = 1;
     query();
@@ -335,6 +374,9 @@ static size_t check_need(void)
     log_bytes[0]--;
     make_twin();
     most(&needed, check, 21);
+    width = 0;
+    most(&needed, check, 25);
+    width = PACER_ONE_FRAME;
     log_length = 0;
     query();
     most(&needed, check, 0);

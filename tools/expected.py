@@ -1,7 +1,7 @@
 #!/usr/bin/env python3
 """The expected output of the program `profile`, of queries by windows, of the call for logs on file,
-of calls on the same records in two orders and of slots held to their logs, computed from the paper's
-words.
+of calls on the same records in two orders, of slots held to their logs and of calls with a memory,
+computed from the paper's words.
 
     expected.py INPUT                    print what `profile` prints for the file INPUT
     expected.py --cases CASES EXPECTED   write the file of cases and the file of expected output
@@ -10,15 +10,16 @@ words.
     expected.py --order FILE SHUFFLED    write two files of calls on a log, which have the same
                                          records line by line, in the second in another order
     expected.py --check FILE             write the file of logs and slots with what is said of them
+    expected.py --memory FILE            write the file of calls with a memory with their answers
 
 An input is the kind (1 byte), 52 for a row limit or 45 for a share (hexadecimal), the bound
 (2 bytes, least byte first) and the log. In the file of cases each case is its length (2 bytes,
 least byte first) and then its bytes; the file of expected output has what `profile` prints for
 one case after another.
 
-The program takes no windows, keeps no log and reads no slot, so these are for the Rust tests; each
-query by windows, each log on file, each call in two orders and each slot with its log is a line of
-words, which the first lines of its file explain.
+The program takes no windows, keeps no log, reads no slot and has no memory, so these are for the Rust
+tests; each query by windows, each log on file, each call in two orders, each slot with its log and each
+call with a memory is a line of words, which the first lines of its file explain.
 
 Frames, segments, blocks and cuts are worked out one by one with Python's whole numbers and
 fractions, by the shortest way from the words and not the fastest.
@@ -451,10 +452,11 @@ def squared_error(values, held):
     return sum((value - held[place]) ** 2 for place, value in values.items())
 
 
-def match_questions(log, slot):
-    """The questions of a slot with its log, of which both have passed their own."""
+def match_questions(slot, values):
+    """The questions of a slot with its log, of which both have passed their own: with the values of the
+    covered frames."""
     kind = slot[2]
-    values, held = frame_values(log, kind), row_values(row[1:] for row in rows_of(slot))
+    held = row_values(row[1:] for row in rows_of(slot))
     yield 22, 0, values.keys() == held.keys()
     yield 23, 0, kind != GREATEST or all(held[place] >= value for place, value in values.items())
     yield 24, 0, whole(slot[4:12]) == squared_error(values, held)
@@ -462,8 +464,148 @@ def match_questions(log, slot):
 
 def check_answer(log, slot):
     """What is said of a slot held to a log: 'yes', or 'no' with number and index."""
+    def matched():
+        yield from match_questions(slot, frame_values(log, slot[2]))
+
     return refused(itertools.chain([(1, 0, len(slot) >= 768)], log_questions(log),
-                                   slot_questions(slot), match_questions(log, slot))) or "yes"
+                                   slot_questions(slot), matched())) or "yes"
+
+
+# ---- A memory ------------------------------------------------------------------------------
+
+
+def width_question(width):
+    return 25, 0, 1 <= width <= 4096
+
+
+@functools.lru_cache(maxsize=256)
+def remembered(log, kind, width):
+    """The value of every covered frame, by group and frame: the aggregate over the group's records that
+    contain at least one of the last `width` frames, the frame itself included."""
+    values = {}
+    for group in range(8):
+        mine = [(first, last, load) for _, g, first, last, load in records_of(log) if g == group]
+        if not mine:
+            continue
+        known = {}
+        # Of a frame before the first record or `width` frames behind the last one no last frame lies in
+        # a record; and there are no frames behind 65,535.
+        for frame in range(min(first for first, _, _ in mine),
+                           min(max(last for _, last, _ in mine) + width, 65536)):
+            oldest = max(0, frame - width + 1)
+            # A record contains one of the frames from the oldest to this one.
+            loads = tuple(load for first, last, load in mine if first <= frame and oldest <= last)
+            if loads:
+                if loads not in known:
+                    known[loads] = aggregate(kind, loads)
+                values[group, frame] = known[loads]
+    return values
+
+
+@functools.lru_cache(maxsize=256)
+def remembered_segments(log, kind, width):
+    """The segments of a log with a memory: the covered frames, joined where they are neighbours of a
+    group with equal values."""
+    segments = []
+    for (group, frame), value in remembered(log, kind, width).items():
+        if segments and segments[-1] == [group, segments[-1][1], frame - 1, value]:
+            segments[-1][2] = frame
+        else:
+            segments.append([group, frame, frame, value])
+    return segments
+
+
+class MemoryQuery:
+    """A query by a bound with a width, into a slot of some length. The rule may be any letter."""
+
+    def __init__(self, kind, rule, bound, width, log, length=768):
+        self.kind, self.rule, self.bound = kind, rule, bound
+        self.width, self.log, self.length = width, log, length
+
+    def words(self):
+        return (f"query {self.kind} {self.rule:02x} {self.bound} {self.width} {self.length} "
+                f"{self.log.hex() or '-'}")
+
+    def questions(self):
+        yield 1, 0, self.length >= 768
+        yield 2, 0, self.kind in KINDS
+        yield 3, 0, self.bound <= {ROWS: 64, SHARE: 1000}.get(self.rule, -1)
+        yield width_question(self.width)
+        yield from log_questions(self.log)
+
+    def reduced(self):
+        """Rows, error and weighed cuts, or None for 'too few rows'."""
+        segments = remembered_segments(self.log, self.kind, self.width)
+        return reduction(segments, self.kind, self.rule, self.bound)
+
+    def answer(self):
+        """'no' with number and index, or the cuts weighed and the bytes of the slot."""
+        no = refused(self.questions())
+        if no:
+            return no
+        found = self.reduced()
+        if found is None:
+            return "no 10 0"
+        rows, error, weighed = found
+        return f"{weighed} {slot_bytes(b'PH', self.kind, error, rows)}"
+
+    def answer_of_before(self):
+        """The answer without a memory."""
+        if self.length < 768 or self.rule not in (ROWS, SHARE):
+            return None
+        return Bound(self.rule, self.bound).answer(self.kind, self.log)
+
+
+class MemorySegments:
+    """The segment call with a width, into a list of some places."""
+
+    def __init__(self, kind, width, log, places=255):
+        self.kind, self.width, self.log, self.places = kind, width, log, places
+
+    def words(self):
+        return f"segments {self.kind} {self.width} {self.places} {self.log.hex() or '-'}"
+
+    def questions(self):
+        yield 1, 0, self.places >= 255
+        yield 2, 0, self.kind in KINDS
+        yield width_question(self.width)
+        yield from log_questions(self.log)
+
+    def answer(self):
+        """'no' with number and index, or the segments."""
+        no = refused(self.questions())
+        if no:
+            return no
+        segments = remembered_segments(self.log, self.kind, self.width)
+        return " ".join(",".join(map(str, each)) for each in segments) or "-"
+
+    def answer_of_before(self):
+        return Segments().answer(self.kind, self.log) if self.places >= 255 else None
+
+
+class MemoryCheck:
+    """A slot held to its log with a width."""
+
+    def __init__(self, width, log, slot):
+        self.width, self.log, self.slot = width, log, slot
+
+    def words(self):
+        return (f"check {self.width} {self.log.hex() or '-'} {len(self.slot)} "
+                f"{self.slot.rstrip(bytes(1)).hex() or '-'}")
+
+    def questions(self):
+        yield 1, 0, len(self.slot) >= 768
+        yield width_question(self.width)
+        yield from log_questions(self.log)
+        yield from slot_questions(self.slot)
+        yield from match_questions(self.slot, remembered(self.log, self.slot[2], self.width))
+
+    def answer(self):
+        """'yes', or 'no' with number and index."""
+        return refused(self.questions()) or "yes"
+
+    def answer_of_before(self):
+        return check_answer(self.log, self.slot)
 
 
 # ---- The cases -----------------------------------------------------------------------------
@@ -1626,6 +1768,292 @@ def check_lines():
     return [f"{asked}: {answer}\n" for asked, answer in lines.items()]
 
 
+# ---- Calls with a memory -------------------------------------------------------------------
+
+# The widths that there are not.
+WRONG_WIDTHS = (0, 4097, 65535)
+
+
+def memory_bounds(log, kind, width):
+    """Bounds of a log with a memory: as few rows as runs, one below, one between, as many as segments or
+    as a slot holds, and shares."""
+    segments = remembered_segments(log, kind, width)
+    n = len(segments)
+    m = sum(is_gap(segments, j) for j in range(1, n)) + (1 if n else 0)
+    for limit in sorted({m - 1, m, (m + n) // 2, n} & set(range(65))):
+        yield ROWS, limit
+    yield SHARE, 300
+    yield SHARE, 0
+
+
+def memory_written(log, kind, width, others=()):
+    """The segments of a log with a memory, its queries by several bounds, and of the slots that they
+    write the check with the same width, which accepts them, and with others: due and call."""
+    yield None, MemorySegments(kind, width, log)
+    for rule, bound in memory_bounds(log, kind, width):
+        query = MemoryQuery(kind, rule, bound, width, log)
+        yield None, query
+        found = query.reduced()
+        if found is not None:
+            rows, error, _ = found
+            slot = whole_slot(kind, error, rows)
+            yield "yes", MemoryCheck(width, log, slot)
+            for other in others:
+                yield None, MemoryCheck(other, log, slot)
+
+
+def memory_slots(log, kind, width):
+    """Slots beside one that is right with a width: with another error, a value one less or more, a last
+    frame one less or more, and a first one."""
+    rows = [tuple(each) for each in remembered_segments(log, kind, width)]
+    values = remembered(log, kind, width)
+    yield "yes", MemoryCheck(width, log, whole_slot(kind, 0, rows))
+    yield "no 24 0", MemoryCheck(width, log, whole_slot(kind, 1, rows))
+    for other in moved(rows):
+        yield None, MemoryCheck(width, log, whole_slot(kind, 0, other))
+        if [row[:3] for row in other] == [row[:3] for row in rows]:
+            short = kind == GREATEST and any(one[3] < row[3] for one, row in zip(other, rows))
+            error = squared_error(values, row_values(other))
+            due = "no 23 0" if short else "yes"
+            yield due, MemoryCheck(width, log, whole_slot(kind, error, other))
+
+
+def memory_ends():
+    """Records at the last frames and at the first: logs and widths. The last frame is 65,535, and there is
+    none behind it for a record to be remembered in."""
+    for width in (2, 3, 60, 4096):
+        # Just remembered to the last frame, one frame less, one more, and others there.
+        for last in (65535 - width, 65536 - width, 65537 - width, 65534, 65535):
+            first = min(last, 65000)
+            yield log_of([(6, first, last, 9)]), width
+            yield log_of([(6, last, last, 7), (6, first - 40, last - 30, 900), (2, 4, 4, 1)]), width
+        yield log_of([(1, 65535, 65535, 1000)]), width
+        yield log_of([(1, 65535, 65535, 1000), (1, 65536 - width, 65536 - width, 3)]), width
+        yield log_of([(0, 0, 0, 5)]), width
+        yield log_of([(0, 0, 0, 5), (7, 65535, 65535, 6), (7, 0, 0, 8)]), width
+    for width in (1, 4095, 4096):
+        yield log_of([(3, 0, 65535, 2), (3, 61440, 61440, 7)]), width
+
+
+def memory_gaps():
+    """Records with as many frames between them as a memory closes, one less and one more: logs and widths.
+    Frames between groups are no gaps."""
+    for width in (2, 3, 60, 4096):
+        for gap in (width - 2, width - 1, width):
+            for load in (40, 41):
+                yield log_of([(4, 10, 20, 40), (4, 21 + gap, 25 + gap, load)]), width
+            yield log_of([(4, 10, 20, 40), (5, 21 + gap, 25 + gap, 40)]), width
+        # Three in a row, the first one still remembered where the last begins, just not, and not.
+        for step in (width - 1, width, width + 1):
+            yield log_of([(4, 7, 7, 1), (4, 7 + step, 7 + step, 2), (4, 8 + step, 8 + step, 4)]), width
+
+
+def memory_no_twins():
+    """Records of a group that differ in their last frame alone, each remembered to the last frame of all:
+    logs and widths. They are no twins, and both count."""
+    for width in (2, 3, 60, 4096):
+        for one, other in ((65534, 65535), (65536 - width, 65535), (65536 - width, 65534)):
+            if one != other:
+                pair = [(5, 65000 if one > 65000 else one - 9, last, 300) for last in (one, other)]
+                yield log_of(pair), width
+                yield log_of(pair + [(5, 65535, 65535, 100)]), width
+        # One frame each, one after the other, all of which are remembered at the last.
+        yield log_of([(5, frame, frame, 250) for frame in range(65533, 65536)]), width
+
+
+def memory_same_cover():
+    """A peak in a load that lasts to the last frame of all, so that every width covers the same frames: the
+    slot of one width with others has rows that are too long, or short of the peak. Due and call."""
+    log = log_of([(3, 65400, 65535, 200), (3, 65450, 65451, 900)])
+    for kind in KINDS:
+        for width in (2, 10, 60, 84):
+            rows, error, _ = MemoryQuery(kind, ROWS, 3, width, log).reduced()
+            assert error == 0 and len(rows) == (1 if kind == 2 else 3)
+            slot = whole_slot(kind, 0, rows)
+            for other in (1, width - 1, width, width + 1, 4096):
+                # The peak is not the least load, and 900 in a row is not below 200 in a frame.
+                short = "no 23 0" if kind == GREATEST and other > width else "no 24 0"
+                due = "yes" if kind == 2 or other == width else short
+                yield due, MemoryCheck(other, log, slot)
+
+
+def memory_refusals():
+    """Wrong widths with one other fault or several, and what each call asks first: due and call."""
+    g = log_of(LOG_G)
+    right, error = [(0, 0, 1, 100), (0, 2, 6, 242), (0, 9, 10, 50), (1, 0, 0, 7)], 11280
+    slot = whole_slot(0, error, right)
+    # Logs that fail each of their questions.
+    logs = [g[:-1], g[:9] * 129, g + FAULTS[6][0], FAULTS[7][0] + g, g + FAULTS[8][0], FAULTS[9][0],
+            g + g[:9], b"L", b""]
+    for width in WRONG_WIDTHS:
+        for kind in KINDS:
+            yield "no 25 0", MemoryQuery(kind, ROWS, 4, width, g)
+            yield "no 25 0", MemoryQuery(kind, SHARE, 300, width, g)
+            yield "no 25 0", MemorySegments(kind, width, g)
+        for log in logs:
+            yield "no 25 0", MemoryQuery(0, ROWS, 4, width, log)
+            yield "no 25 0", MemorySegments(4, width, log)
+            yield "no 25 0", MemoryCheck(width, log, slot)
+        # Too few rows come last of all.
+        yield "no 25 0", MemoryQuery(0, ROWS, 0, width, g)
+        # Ahead of 25: the slot or list, the kind, letter and bound.
+        for log in (g, g[:-1]):
+            yield "no 1 0", MemoryQuery(0, ROWS, 4, width, log, 767)
+            yield "no 1 0", MemoryQuery(5, ROWS, 65, width, log, 0)
+            yield "no 1 0", MemorySegments(0, width, log, 254)
+            yield "no 1 0", MemorySegments(5, width, log, 0)
+            yield "no 1 0", MemoryCheck(width, log, slot[:767])
+            for kind in (5, 255):
+                yield "no 2 0", MemoryQuery(kind, ROWS, 4, width, log)
+                yield "no 2 0", MemoryQuery(kind, 0, 65, width, log)
+                yield "no 2 0", MemorySegments(kind, width, log)
+            for rule, bound in ((ROWS, 65), (SHARE, 1001), (0x53, 4), (0x4D, width), (0, 0)):
+                yield "no 3 0", MemoryQuery(0, rule, bound, width, log)
+        # Of a check, the slot's questions and those of both come behind.
+        for place, byte in ((0, 0), (1, 0x53), (2, 5), (3, 65), (12, 0), (19, 1), (767, 1), (4, 0)):
+            yield "no 25 0", MemoryCheck(width, g, with_byte(slot, place, byte))
+    # The same with a right width: the next question is asked.
+    dues = ["no 4 0", "no 5 0", "no 6 5", "no 7 0", "no 8 5", "no 9 0", "no 21 5", "no 4 0"]
+    for width in (2, 4096):
+        for log, due in zip(logs, dues):
+            yield due, MemoryQuery(0, ROWS, 4, width, log)
+            yield due, MemorySegments(4, width, log)
+            yield due, MemoryCheck(width, log, slot)
+        for place, byte, due in ((1, 0x53, "no 11 0"), (2, 5, "no 12 0"), (3, 65, "no 13 0"),
+                                 (12, 0, "no 14 0"), (14, 8, "no 15 0"), (26, 1, "no 16 1"),
+                                 (767, 1, "no 17 0"), (4, 0, "no 22 0")):
+            yield due, MemoryCheck(width, g, with_byte(slot, place, byte))
+        yield "no 10 0", MemoryQuery(0, ROWS, 1, width, g)
+        yield None, MemoryQuery(0, ROWS, 64, width, b"")
+        yield "yes", MemoryCheck(width, b"", whole_slot(3, 0, []))
+        yield "no 24 0", MemoryCheck(width, b"", whole_slot(3, 1, []))
+        yield "no 22 0", MemoryCheck(width, b"", whole_slot(3, 0, [(0, 0, 0, 0)]))
+        # Longer slots and lists.
+        yield None, MemoryQuery(2, ROWS, 4, width, g, 769)
+        yield None, MemorySegments(2, width, g, 256)
+
+
+def memory_many():
+    """Logs of 128 records with a memory: due and call."""
+    # Records within each other: 255 segments without a memory, and others with one.
+    stairs = log_of([(0, 2 * i, 1000 - 2 * i, 1 + i % 7) for i in range(128)])
+    for kind, width in ((0, 1), (0, 2), (1, 60), (1, 4096)):
+        yield None, MemorySegments(kind, width, stairs)
+    yield None, MemoryQuery(0, ROWS, 3, 2, stairs)
+    # Frames that are 60 apart: a memory of 60 just closes what is between them.
+    apart = log_of([(i // 16, 60 * i, 60 * i, 100 + i) for i in range(128)])
+    for width in (59, 60, 61, 120):
+        yield None, MemorySegments(3, width, apart)
+        yield None, MemoryQuery(3, ROWS, 64, width, apart)
+        yield None, MemoryQuery(3, SHARE, 500, width, apart)
+    # The greatest value: 128 records of one frame each, in a row, that are all remembered at one frame,
+    # and with a width one less at none: two frames then have the greatest value, in one segment.
+    row = log_of([(7, 40 + i, 40 + i, 1000) for i in range(128)])
+    for width, most, count in ((127, 127000, 253), (128, 128000, 255), (129, 128000, 255),
+                               (4096, 128000, 255)):
+        segments = remembered_segments(row, 0, width)
+        assert max(each[3] for each in segments) == most and len(segments) == count
+        yield None, MemorySegments(0, width, row)
+    yield None, MemoryQuery(1, ROWS, 1, 128, row)
+
+
+def memory_calls():
+    """Calls with a memory: what is due where it is known by the way the call was made, and the call."""
+    g = log_of(LOG_G)
+    widths = (1, 2, 3, 4, 11, 60, 4096)
+    for kind in KINDS:
+        for place, width in enumerate(widths):
+            # The slots of a query with the widths beside its own, and with none.
+            others = {widths[place - 1], widths[(place + 1) % 7], 1, width + 1, 0} - {width}
+            few = sorted(others) if (kind + place) % 3 == 0 else sorted(others)[1:2]
+            yield from memory_written(g, kind, width, few)
+        if kind in (0, GREATEST):
+            yield from memory_slots(g, kind, 3)
+        # The records in other orders.
+        for turn, order in enumerate(ORDERS):
+            other = b"".join(order(nines_of(g)))
+            query = MemoryQuery(kind, ROWS, 4, 3, other)
+            due = MemoryQuery(kind, ROWS, 4, 3, g).answer()
+            yield due, query
+            yield MemorySegments(kind, widths[turn], g).answer(), MemorySegments(
+                kind, widths[turn], other)
+    for log, width in memory_ends():
+        kind = (len(log) + width) % 5
+        yield None, MemorySegments(0, width, log)
+        yield None, MemorySegments(1, width, log)
+        yield from list(memory_written(log, kind, width, [1, width - 1 or 2]))[1:6]
+    for log, width in memory_gaps():
+        yield from list(memory_written(log, 0, width, [width - 1, width + 1]))[:5]
+        yield None, MemorySegments(4, width, log)
+    for log, width in memory_no_twins():
+        yield None, MemorySegments(0, width, log)
+        yield None, MemorySegments(1, width, log)
+        yield from list(memory_written(log, 0, width, [1]))[2:5]
+        yield f"no 21 {len(log) // 9}", MemoryQuery(0, ROWS, 64, width, log + log[:9])
+    yield from memory_same_cover()
+    yield from memory_refusals()
+    yield from memory_many()
+    # Records that lie over each other, and the published relations.
+    for records in OVERLAPPING[:4] + [SALARIES, PATIENTS]:
+        for kind in KINDS:
+            yield from list(memory_written(log_of(records), kind, 2 + kind, [1]))[:5]
+    # Small logs at random.
+    numbers = random.Random(9)
+    for _ in range(100):
+        span = numbers.randint(1, 20)
+        base = numbers.choice((0, 0, 100, 65536 - span))
+        records = list(dict.fromkeys(records_at_random(numbers, base, span)))
+        width = numbers.choice((1, 2, 2, 3, 4, 5, 7, 10, 60))
+        kind = numbers.choice(KINDS)
+        calls = list(memory_written(log_of(records), kind, width, [numbers.randint(1, 9)]))
+        yield from calls[:1] + numbers.sample(calls[1:], min(3, len(calls) - 1))
+
+
+MEMORY_HEAD = """\
+# Calls with a memory and their answers, made by tools/expected.py --memory. A line is
+#     query KIND RULE BOUND WIDTH LENGTH LOG: ANSWER
+#     segments KIND WIDTH PLACES LOG: ANSWER
+#     check WIDTH LOG LENGTH SLOT: ANSWER
+# RULE is a letter in hexadecimal, 52 for a row limit and 45 for a share, LENGTH the slot's length in
+# bytes, PLACES the length of the list, and LOG and SLOT are bytes in hexadecimal, - if there are none;
+# a slot's up to the zeros at its end. ANSWER is 'no', number and index; or for a query the cuts weighed
+# and the slot's bytes up to its zeros; for segments each one's group, first frame, last frame and value,
+# - if there are none; and for a check 'yes'.
+"""
+
+
+def memory_lines():
+    """The lines of the file of calls with a memory, each once. With the width 1 a call answers as it did
+    before."""
+    lines = {}
+    met = set()
+    for due, call in memory_calls():
+        words = call.words()
+        if words not in lines:
+            lines[words] = call.answer()
+            name, answer = words.split()[0], lines[words]
+            number = int(answer.split()[1]) if answer.startswith("no ") else 0
+            met.add((name, number))
+            if number == 0:
+                met.add((name, "width", call.width))
+                if name != "check":
+                    met.add((name, "kind", call.kind))
+            if call.width == 1 and call.answer_of_before() is not None:
+                assert answer == call.answer_of_before(), words
+                met.add((name, "before", number))
+        assert due in (None, lines[words]), (words, due, lines[words])
+    of_log = (4, 5, 6, 7, 8, 9, 21)
+    owed = {("query", number) for number in (0, 1, 2, 3, 25, 10) + of_log}
+    owed |= {("segments", number) for number in (0, 1, 2, 25) + of_log}
+    owed |= {("check", number) for number in (0, 1, 25) + of_log + tuple(range(11, 18)) + (22, 23, 24)}
+    owed |= {(name, "width", width) for name in ("query", "segments", "check")
+             for width in (1, 2, 3, 60, 4096)}
+    owed |= {(name, "kind", kind) for name in ("query", "segments") for kind in KINDS}
+    owed |= {(name, "before", 0) for name in ("query", "segments", "check")}
+    assert owed <= met, owed - met
+    return [f"{words}: {answer}\n" for words, answer in lines.items()]
+
+
 def check_halves():
     """With the lower number at a half, the same cases are refused, and the others have the same
     error, the same cuts weighed and rows of the same frames. A value is one less at a half, and
@@ -1754,6 +2182,20 @@ def check_known():
         rows = [four[0], (0, 2, 6, value), *four[2:]]
         assert check_answer(g, whole_slot(GREATEST, error, rows)) == answer
         assert check_answer(g[9:] + g[:9], whole_slot(GREATEST, error, rows)) == answer
+    # G with a memory of three frames, of which its second gap is closed, and of two, of which it is not;
+    # a slot is of its own width; records that end at frames of their own are no twins at the last one.
+    assert remembered_segments(g, 0, 3) == [[0, 0, 1, 100], [0, 2, 5, 300], [0, 6, 7, 410],
+                                            [0, 8, 8, 210], [0, 9, 12, 50], [1, 0, 2, 7]]
+    assert remembered_segments(g, 0, 2)[4:] == [[0, 7, 7, 210], [0, 9, 11, 50], [1, 0, 1, 7]]
+    four = [(0, 0, 1, 100), (0, 2, 8, 319), (0, 9, 12, 50), (1, 0, 2, 7)]
+    assert MemoryQuery(0, ROWS, 4, 3, g).reduced()[:2] == (four, 29887)
+    assert [MemoryQuery(0, ROWS, c, 3, g).reduced()[1] for c in (2, 3, 5, 6)] == [238232, 104200, 16134, 0]
+    assert [MemoryQuery(0, SHARE, p, 3, g).reduced()[1] for p in (125, 126)] == [16134, 29887]
+    for width, answer in ((3, "yes"), (2, "no 22 0"), (4, "no 22 0"), (0, "no 25 0")):
+        assert MemoryCheck(width, g, whole_slot(0, 29887, four)).answer() == answer
+    pair = log_of([(4, 65000, 65533, 7), (4, 65000, 65534, 7)])
+    assert remembered_segments(pair, 0, 3) == [[4, 65000, 65535, 14]]
+    assert remembered_segments(pair, 0, 2) == [[4, 65000, 65534, 14], [4, 65535, 65535, 7]]
     # The published reductions: first and last frames are the same, and a row value is the whole
     # number nearest to the published mean, of which 467.5 is one.
     assert profile(case(0, ROWS, 4, log_of(PROJ))).split("\n")[1:5] == [
@@ -1791,6 +2233,7 @@ def main(words):
         "--windows": (WINDOWS_HEAD, windows_lines, "queries by windows"),
         "--twins": (TWINS_HEAD, twins_lines, "logs on file"),
         "--check": (CHECK_HEAD, check_lines, "slots with their logs"),
+        "--memory": (MEMORY_HEAD, memory_lines, "calls with a memory"),
     }
     if len(words) == 2 and words[0] in listed:
         head, lines_of, name = listed[words[0]]

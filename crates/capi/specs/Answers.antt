@@ -27,8 +27,9 @@ askedFields (accepted u) = record { question = 0; index = 0 }
 askedFields (refused number index) = record { question = number; index = index }
 
 -- these fields are those of a call that keeps the promise of a check
-abbrev pub CheckFields : List ℕ → List ℕ → CAnswer → Type 0
-CheckFields log slot answer = (says : Outcome (Unit {0})) × (answer ≡ askedFields says) × CheckPromise log slot says
+abbrev pub CheckFields : ℕ → List ℕ → List ℕ → CAnswer → Type 0
+CheckFields width log slot answer =
+    (says : Outcome (Unit {0})) × (answer ≡ askedFields says) × CheckPromise width log slot says
 
 unfoldable pub logFields : Outcome ℕ → CLogAnswer
 logFields (accepted n) = record { question = 0; index = 0; length = n }
@@ -53,9 +54,9 @@ segmentsFields (accepted count) = record { question = 0; index = 0; count = coun
 segmentsFields (refused number index) = record { question = number; index = index; count = 0 }
 
 -- these fields are those of a call that keeps the promise of a segment call
-abbrev pub SegmentsFields : ℕ → List ℕ → List Segment → CSegmentsAnswer → List Segment → Type 0
-SegmentsFields kind log list answer after =
-    (says : Outcome ℕ) × (answer ≡ segmentsFields says) × SegmentsPromise kind log list says after
+abbrev pub SegmentsFields : ℕ → ℕ → List ℕ → List Segment → CSegmentsAnswer → List Segment → Type 0
+SegmentsFields kind width log list answer after =
+    (says : Outcome ℕ) × (answer ≡ segmentsFields says) × SegmentsPromise kind width log list says after
 
 unfoldable pub readFields : Outcome Header → CReadAnswer
 readFields (accepted h) = record { question = 0; index = 0; kind = h .kind; mark = h .mark; rows = h .rows; error = h .error }

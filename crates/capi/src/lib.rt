@@ -62,14 +62,15 @@ pub extern "C" fn pacer_query(
     kind: u8,
     rule: u8,
     bound: u16,
+    width: u16,
     log: &[u8],
     slot: &mut [u8],
 ) -> CQueryAnswer
-    ensures says { λ r. ⌜ r ≡ queryFields (letterOutcome kind rule bound (now (log .entry)) (length (now (slot .entry)))) ⌝ }
-    ensures holds { λ _. ⌜ now (slot .exit) ≡ letterSlot kind rule bound (now (log .entry)) (now (slot .entry)) ⌝ }
-    ensures promise { λ r. ⌜ ((says : Outcome Counts) × (r ≡ queryFields says) × LetterPromise kind rule bound (now (log .entry)) (now (slot .entry)) says (now (slot .exit))) ⌝ }
+    ensures says { λ r. ⌜ r ≡ queryFields (letterOutcome kind rule bound width (now (log .entry)) (length (now (slot .entry)))) ⌝ }
+    ensures holds { λ _. ⌜ now (slot .exit) ≡ letterSlot kind rule bound width (now (log .entry)) (now (slot .entry)) ⌝ }
+    ensures promise { λ r. ⌜ ((says : Outcome Counts) × (r ≡ queryFields says) × LetterPromise kind rule bound width (now (log .entry)) (now (slot .entry)) says (now (slot .exit))) ⌝ }
 {
-    let answer = pacer::query_by_letter(kind, rule, bound, log, slot);
+    let answer = pacer::query_by_letter(kind, rule, bound, width, log, slot);
     answers::of_query(answer)
 }
 
@@ -109,10 +110,15 @@ pub extern "C" fn pacer_query_scenes(
 
 // The segments of a log, in the first places of a list of 255 or more.
 #[no_mangle]
-pub extern "C" fn pacer_segments(log: &[u8], kind: u8, list: &mut [Segment]) -> CSegmentsAnswer
-    ensures { λ r. ⌜ (r ≡ segmentsFields (segmentsOutcome kind (now (log .entry)) (length (now (list .entry))))) × (now (list .exit) ≡ filledList kind (now (log .entry)) (now (list .entry))) × SegmentsFields kind (now (log .entry)) (now (list .entry)) r (now (list .exit)) ⌝ }
+pub extern "C" fn pacer_segments(
+    log: &[u8],
+    kind: u8,
+    width: u16,
+    list: &mut [Segment],
+) -> CSegmentsAnswer
+    ensures { λ r. ⌜ (r ≡ segmentsFields (segmentsOutcome kind width (now (log .entry)) (length (now (list .entry))))) × (now (list .exit) ≡ filledList kind width (now (log .entry)) (now (list .entry))) × SegmentsFields kind width (now (log .entry)) (now (list .entry)) r (now (list .exit)) ⌝ }
 {
-    let answer = lent::list::segments(log, kind, list);
+    let answer = lent::list::segments(log, kind, width, list);
     answers::of_segments(answer)
 }
 
@@ -156,10 +162,10 @@ pub extern "C" fn pacer_lookup(slot: &[u8], group: u8, frame: u16) -> CLookupAns
 // Whether a slot agrees with its log: its rows cover just the covered frames, none of kind 3 is below a covered value, and its error is their
 // squared error.
 #[no_mangle]
-pub extern "C" fn pacer_check(log: &[u8], slot: &[u8]) -> CAnswer
-    ensures says { λ r. ⌜ r ≡ askedFields (checkOutcome (now (log .entry)) (now (slot .entry))) ⌝ }
-    ensures promise { λ r. ⌜ CheckFields (now (log .entry)) (now (slot .entry)) r ⌝ }
+pub extern "C" fn pacer_check(log: &[u8], width: u16, slot: &[u8]) -> CAnswer
+    ensures says { λ r. ⌜ r ≡ askedFields (checkOutcome width (now (log .entry)) (now (slot .entry))) ⌝ }
+    ensures promise { λ r. ⌜ CheckFields width (now (log .entry)) (now (slot .entry)) r ⌝ }
 {
-    let answer = checker::check(log, slot);
+    let answer = checker::check(log, width, slot);
     answers::of_asked(answer)
 }

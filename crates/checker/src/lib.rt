@@ -1,11 +1,13 @@
 // A slot against its log: question 1, the log's, the slot's as one by a bound, and then whether its rows cover just the covered frames (22),
 // no row of kind 3 is below a covered value (23), and the error is the rows' squared error (24).
 use common::eight;
+use common::is_width;
 use common::no;
 use compare::Compared;
 use model::Asked;
 use model::BY_BOUND;
 use model::GREATEST_KIND;
+use model::MOST_SEGMENTS;
 use model::SLOT_LENGTH;
 ghost use mathlib.Core.Path.{_≡_};
 ghost use mathlib.Core.Bool.{true, cond};
@@ -56,21 +58,27 @@ fn ask_found(kind: u8, error: u64, found: Compared) -> Asked
 }
 
 // Questions 22 to 24, of a log and a slot that have passed theirs.
-fn ask_against(log: &[u8], slot: &[u8]) -> Asked
+fn ask_against(log: &[u8], width: u16, slot: &[u8]) -> Asked
     requires { ⌜ AllPass (logQuestions (now log)) ⌝ }
+    requires { ⌜ 1 ≤ width ⌝ }
     requires { ⌜ AllPass (slotQuestions (now slot)) ⌝ }
-    ensures { λ r. ⌜ askedCase r ≡ outcome (againstQuestions (slotKind (now (slot .entry))) (slotError (now (slot .entry))) (slotRows (now (slot .entry))) (value (slotKind (now (slot .entry))) (records (now (log .entry))))) tt ⌝ }
+    ensures { λ r. ⌜ askedCase r ≡ outcome (againstQuestions (slotKind (now (slot .entry))) (slotError (now (slot .entry))) (slotRows (now (slot .entry))) (value (slotKind (now (slot .entry))) width (records (now (log .entry))))) tt ⌝ }
 {
     let kind = slot[2];
-    let segments = segments::of_log(log, kind);
-    let found = compare::with_segments(
-        slot,
-        &segments.groups,
-        &segments.firsts,
-        &segments.lasts,
-        &segments.values,
-        segments.count,
+    let mut groups = [0u8; MOST_SEGMENTS];
+    let mut firsts = [0u16; MOST_SEGMENTS];
+    let mut lasts = [0u16; MOST_SEGMENTS];
+    let mut values = [0u32; MOST_SEGMENTS];
+    let count = segments::of_log(
+        log,
+        kind,
+        width,
+        &mut groups,
+        &mut firsts,
+        &mut lasts,
+        &mut values,
     );
+    let found = compare::with_segments(slot, &groups, &firsts, &lasts, &values, count);
     ask_found(kind, eight(slot, 4), found)
 }
 
@@ -85,18 +93,21 @@ fn then(first: Asked, second: Asked) -> Asked
 }
 
 // Asks whether a slot agrees with its log.
-pub fn check(log: &[u8], slot: &[u8]) -> Asked
-    ensures says { λ r. ⌜ askedCase r ≡ checkOutcome (now (log .entry)) (now (slot .entry)) ⌝ }
-    ensures promise { λ r. ⌜ CheckPromise (now (log .entry)) (now (slot .entry)) (askedCase r) ⌝ }
+pub fn check(log: &[u8], width: u16, slot: &[u8]) -> Asked
+    ensures says { λ r. ⌜ askedCase r ≡ checkOutcome width (now (log .entry)) (now (slot .entry)) ⌝ }
+    ensures promise { λ r. ⌜ CheckPromise width (now (log .entry)) (now (slot .entry)) (askedCase r) ⌝ }
 {
     if slot.len() < SLOT_LENGTH {
         return no(1, 0);
+    }
+    if !is_width(width) {
+        return no(25, 0);
     }
     let logged = log::ask(log);
     let bounded = ask_bounded(slot);
     let asked = then(logged, bounded);
     match asked {
         Asked::Refused(r) => Asked::Refused(r),
-        Asked::Passed => ask_against(log, slot),
+        Asked::Passed => ask_against(log, width, slot),
     }
 }

@@ -1,7 +1,8 @@
-// What several crates need: numbers of several bytes, least byte first, the place of a slot's row, a question's 'no', and the
-// slot and the rows in which nothing stands.
+// What several crates need: numbers of several bytes, least byte first, the place of a slot's row, a question's 'no', whether a
+// width is known, and the slot and the rows in which nothing stands.
 use model::Asked;
 use model::MOST_ROWS;
+use model::MOST_WIDTH;
 use model::Refusal;
 use model::Row;
 use model::SLOT_LENGTH;
@@ -11,6 +12,7 @@ ghost use Prim.Native.Nat.{_+_, _%_, _≤_};
 ghost use lib.ListN.{length, replicate};
 ghost use Rattle.model.specs.Common.{numberAt};
 ghost use Rattle.model.specs.Slot.{rowPlace};
+ghost use Rattle.model.specs.Questions.{widthKnown};
 ghost use Rattle.model.specs.Arrays.{rowArray};
 
 // A byte, as wide as a count or a place.
@@ -70,6 +72,13 @@ pub fn no(question: u8, index: usize) -> Asked
     ensures { λ r. ⌜ r ≡ Asked.Refused (record { question = question; index = index }) ⌝ }
 {
     Asked::Refused(Refusal { question, index })
+}
+
+// Whether a memory can have this width.
+pub fn is_width(width: u16) -> bool
+    ensures { λ r. ⌜ r ≡ widthKnown width ⌝ }
+{
+    (width >= 1) & (width <= MOST_WIDTH)
 }
 
 // The bytes of a slot in which nothing stands.

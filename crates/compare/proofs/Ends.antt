@@ -11,15 +11,14 @@ use lib.Dec.{ltb, eqb}
 use borrow.Author.Tests.{ltb-true, ltb-false, eq-eqb, ne-eqb}
 use Rattle.model.specs.Common.{sumOf, listFrom}
 use Rattle.model.specs.Spans.{Span, groupCount, frameCount}
-use Rattle.model.specs.Log.{value}
-use Rattle.model.specs.Segments.{segments}
 use Rattle.model.specs.Fitting.{hits, due, squaredError, whole}
 use Rattle.model.specs.Check.{sameCover, neverBelow}
 use Rattle.model.specs.Room.{Measured}
+use Rattle.model.specs.Demands.{Segmentation}
 use Rattle.slot.specs.Places.{placeOf}
 use Rattle.theory.proofs.Tests.{cases, true≢false, is-false, true-holds}
 use Rattle.theory.proofs.Lists.{listFrom-left, none-left}
-use Rattle.theory.proofs.Frames.{Heads, From, hits-sum, segmentation}
+use Rattle.theory.proofs.Frames.{Heads, From, hits-sum}
 use Rattle.theory.proofs.Converse.{listFrom-member}
 use Rattle.theory.proofs.InOrder.{InOrder, once, behind-free}
 use Rattle.theory.proofs.Stored.{Held}
@@ -121,15 +120,12 @@ module _ (h k : ℕ → Span ℕ) (c n : ℕ) where
         shortLeft = λ val valued. (0, rw (sub-zero c, clip-none R) (omega arith), refl);
       }
 
-  module _ (order : InOrder R) (kind : ℕ) (rs : List (Span ℕ)) (is : S ≡ segments kind rs) where
-    abbrev val : ℕ → ℕ → Option ℕ
-    val = value kind rs
-
+  module _ (order : InOrder R) (val : ℕ → ℕ → Option ℕ) (is : Segmentation val S) where
     exact : (g f : ℕ) → hits S g f ≡ due (val g f)
-    exact g f = rw is (segmentation kind rs .exact g f)
+    exact = is .exact
 
     valued : Valued h k c n val
-    valued s m = let m′ = rw is at m in (segmentation kind rs .ordered s m′, segmentation kind rs .constant s m′)
+    valued s m = (is .ordered s m, is .constant s m)
 
     module _ (i j p : ℕ) (reaches : Bool) (error : ℕ) (w : Walk h k c n i j p reaches error) where
       same-hits : (g f : ℕ) → hits R g f + hits (segsLeft h k c n p j) g f ≡ hits S g f + hits (rowsLeft h k c n p i) g f
@@ -172,13 +168,13 @@ module _ (h k : ℕ → Span ℕ) (c n : ℕ) where
     seg-held lt = segs-held (k j) (listFrom-member k 0 n j (omega arith) (omega arith))
 
     -- not the same frames
-    different : ((kind : ℕ) (rs : List (Span ℕ)) → S ≡ segments kind rs → sameCover (value kind rs) R ≡ false)
+    different : ((val : ℕ → ℕ → Option ℕ) → Segmentation val S → sameCover val R ≡ false)
         → Compares R S (record { same = false; reaches = reaches; error = error })
     different apart =
         record {
-          same = λ kind rs is. sym (apart kind rs is);
-          reaches = λ kind rs is e. absurd (true≢false (sym e));
-          error = λ kind rs is e. absurd (true≢false (sym e));
+          same = λ val is. sym (apart val is);
+          reaches = λ val is e. absurd (true≢false (sym e));
+          error = λ val is e. absurd (true≢false (sym e));
         }
 
     -- a row begins before what is left of the segments, or a segment before what is left of the rows
@@ -192,8 +188,8 @@ module _ (h k : ℕ → Span ℕ) (c n : ℕ) where
         let not-there = in-no-second h k c n i j p lt (w .rowOrder) (w .segOrder) (w .rowReaches) (w .segReaches) last low later in
         let in-range = in-frames h k c n i j p lt (w .rowOrder) (w .segOrder) (w .rowReaches) (w .segReaches) last low later in
         different
-        (λ kind rs is.
-        differ order kind rs is i j p reaches error w ((h i) .group) ((trim p (h i)) .first) group in-range (λ e. omega arith))
+        (λ val is.
+        differ order val is i j p reaches error w ((h i) .group) ((trim p (h i)) .first) group in-range (λ e. omega arith))
 
     seg-first : j < n → (i < c → firstPlace p (k j) < firstPlace p (h i))
         → Compares R S (record { same = false; reaches = reaches; error = error })
@@ -205,8 +201,8 @@ module _ (h k : ℕ → Span ℕ) (c n : ℕ) where
         let not-there = in-no-second k h n c j i p lt (w .segOrder) (w .rowOrder) (w .segReaches) (w .rowReaches) last low later in
         let in-range = in-frames k h n c j i p lt (w .segOrder) (w .rowOrder) (w .segReaches) (w .rowReaches) last low later in
         different
-        (λ kind rs is.
-        differ order kind rs is i j p reaches error w ((k j) .group) ((trim p (k j)) .first) group in-range (λ e. omega arith))
+        (λ val is.
+        differ order val is i j p reaches error w ((k j) .group) ((trim p (k j)) .first) group in-range (λ e. omega arith))
 
     -- the two at hand do not begin together
     pub apart : i < c → j < n → (firstPlace p (h i) ≡ firstPlace p (k j) → ⊥)
@@ -236,7 +232,7 @@ module _ (h k : ℕ → Span ℕ) (c n : ℕ) where
         let at-segs = w .seg in
         rw (eq-eqb i c (omega arith), eq-eqb j n (omega arith))
         (record {
-          same = λ kind rs is. sym (finish order kind rs is i j p reaches error w ge ge′ .0);
-          reaches = λ kind rs is t. finish order kind rs is i j p reaches error w ge ge′ .1;
-          error = λ kind rs is t. finish order kind rs is i j p reaches error w ge ge′ .2;
+          same = λ val is. sym (finish order val is i j p reaches error w ge ge′ .0);
+          reaches = λ val is t. finish order val is i j p reaches error w ge ge′ .1;
+          error = λ val is t. finish order val is i j p reaches error w ge ge′ .2;
         })))

@@ -18,19 +18,19 @@ use Rattle.compare.specs.Found.{OfLog}
 
 module _ (segs : List (Span ℕ)) (is : OfLog segs) where
   pub segs-measured : Measured segs
-  segs-measured = let (kind, log, passed, same) = is in rw same (logs-measured kind log (file-passed log passed))
+  segs-measured = let (kind, width, log, passed, same) = is in rw same (logs-measured kind width log (file-passed log passed))
 
   pub segs-held : (s : Span ℕ) → List·Memᴰ s segs → Held s
   unfolding logSegments segments
   segs-held s m =
-      let (kind, log, passed, same) = is in
+      let (kind, width, log, passed, same) = is in
       let rs = records log in
-      let (proper, group, last) = ordered eqb eqb-true (value kind rs) groupCount frameCount (value-inside kind rs) s (rw same at m) in
+      let (proper, group, last) = ordered eqb eqb-true (value kind width rs) groupCount frameCount (value-inside kind width rs) s (rw same at m) in
       (group, proper, last, segs-measured .low-values s m)
 
   pub segs-in-order : InOrder segs
   unfolding logSegments segmentAt
   segs-in-order =
-      let (kind, log, passed, same) = is in
+      let (kind, width, log, passed, same) = is in
       rw same
-      (chain-of Proper Earlier nowhere (logSegments kind log) (segmentation kind (records log) .ordered) (segmentation kind (records log) .sorted))
+      (chain-of Proper Earlier nowhere (logSegments kind width log) (segmentation kind width (records log) .ordered) (segmentation kind width (records log) .sorted))

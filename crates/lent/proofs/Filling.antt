@@ -43,28 +43,29 @@ lent-few qs given most places fits = by (outcome qs tt) refl
 -- ---- segments
 
 -- the spans that a call with so many places finds: none in a refusal
-abbrev pub found : ℕ → List ℕ → ℕ → List (Span ℕ)
-found kind log places = lent (segmentsQuestions kind log places) (logSegments kind log) []
+abbrev pub found : ℕ → ℕ → List ℕ → ℕ → List (Span ℕ)
+found kind width log places = lent (segmentsQuestions kind width log places) (logSegments kind width log) []
 
-found-few : (kind : ℕ) (log : List ℕ) (places : ℕ) → (length (found kind log places) ≤ mostSegments) × (length (found kind log places) ≤ places)
+found-few : (kind width : ℕ) (log : List ℕ) (places : ℕ)
+    → (length (found kind width log places) ≤ mostSegments) × (length (found kind width log places) ≤ places)
 unfolding segmentsQuestions askRoom ask
-found-few kind log places =
-    lent-few (segmentsQuestions kind log places) (logSegments kind log) mostSegments places (λ all.
-    let few = segment-count kind log (file-passed log (all-tail _ _ (all-tail _ _ all))) in
+found-few kind width log places =
+    lent-few (segmentsQuestions kind width log places) (logSegments kind width log) mostSegments places (λ all.
+    let few = segment-count kind width log (file-passed log (all-tail _ _ (all-tail _ _ (all-tail _ _ all)))) in
     let room = leb-true mostSegments places (all-head _ _ all) in
     (few, omega (arith, few, room)))
 
-module _ (kind : ℕ) (log : List ℕ) (arrays : Segments) where
+module _ (kind width : ℕ) (log : List ℕ) (arrays : Segments) where
   -- they fit
-  pub found-fits : (places : ℕ) → arrays ≡ segmentArrays (found kind log places) → (arrays .count ≤ mostSegments) × (arrays .count ≤ places)
+  pub found-fits : (places : ℕ) → arrays ≡ segmentArrays (found kind width log places) → (arrays .count ≤ mostSegments) × (arrays .count ≤ places)
   unfolding segmentArrays
-  found-fits places e = rw e (found-few kind log places)
+  found-fits places e = rw e (found-few kind width log places)
 
   -- and fill the list
-  pub found-fill : (list : List Segment) → arrays ≡ segmentArrays (found kind log (length list))
-      → map segmentOf (segmentsIn arrays) ++ drop (arrays .count) list ≡ filledList kind log list
+  pub found-fill : (list : List Segment) → arrays ≡ segmentArrays (found kind width log (length list))
+      → map segmentOf (segmentsIn arrays) ++ drop (arrays .count) list ≡ filledList kind width log list
   unfolding filledList segmentArrays
-  found-fill list e = ap filled e ∙ held ∙ lent-of over (segmentsQuestions kind log (length list)) (logSegments kind log) []
+  found-fill list e = ap filled e ∙ held ∙ lent-of over (segmentsQuestions kind width log (length list)) (logSegments kind width log) []
     where
       over : List (Span ℕ) → List Segment
       over spans = map segmentOf spans ++ drop (length spans) list
@@ -72,8 +73,8 @@ module _ (kind : ℕ) (log : List ℕ) (arrays : Segments) where
       filled : Segments → List Segment
       filled s = map segmentOf (segmentsIn s) ++ drop (s .count) list
 
-      held : filled (segmentArrays (found kind log (length list))) ≡ over (found kind log (length list))
-      held = ap (λ l. map segmentOf l ++ drop (length (found kind log (length list))) list) (segments-held (found kind log (length list)))
+      held : filled (segmentArrays (found kind width log (length list))) ≡ over (found kind width log (length list))
+      held = ap (λ l. map segmentOf l ++ drop (length (found kind width log (length list))) list) (segments-held (found kind width log (length list)))
 
 -- ---- rows
 

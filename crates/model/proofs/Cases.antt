@@ -17,9 +17,9 @@ use Rattle.model.specs.Segments.{join, fuse, place, framesFrom, groupsFr
 use Rattle.model.specs.Blocks.{segmentAt, gap, lastGap, runsTo, block, empty, totalsOf, add, totals, nearest, valueFor, rowValue, squared, errorWith, blockError, rowOf}
 use Rattle.model.specs.Split.{untried, plus, below, exceeds, weigh, scan, single, cell, least, weighed, cutsOf, rowsOf, fewest, within, firstThat, mostRows, chosen, rowsTried, Reduced, errorOf, gapBelow, runs, leastOf, countFor, reducedTo, reduced}
 use Rattle.model.specs.Slot.{slotLength, byBound, rowBytes, rowsBytes, usedBytes, slotBytes, rowPlace, slotMark, slotKind, slotCount, slotError, slotRow, slotRows, valueIn}
-use Rattle.model.specs.Questions.{ask, Outcome, refused, accepted, outcome, each, marked, askRoom, kindKnown, boundKnown, groupKnown, spanQuestions, recordQuestions, twinQuestions, mostRecords, logQuestions, orderQuestions, enoughRows, queryQuestions}
+use Rattle.model.specs.Questions.{ask, Outcome, refused, accepted, outcome, each, marked, askRoom, kindKnown, boundKnown, groupKnown, spanQuestions, recordQuestions, twinQuestions, mostRecords, logQuestions, widthKnown, askWidth, orderQuestions, enoughRows, queryQuestions, queryBy}
 use Rattle.model.specs.Questions.{lent, writeQuestions, follows, inOrder, rowKnown, rowQuestions, zeros, tailZero, errorKnown, headerMarked, slotQuestions}
-use Rattle.model.specs.Calls.{Counts, countsOf, logSegments, answerOf, queryOutcome, querySlot, Header, readOutcome, readRows, writeOutcome, writtenBuffer}
+use Rattle.model.specs.Calls.{Counts, countsOf, logSegments, querySegments, answerOf, queryOutcome, querySlot, Header, readOutcome, readRows, writeOutcome, writtenBuffer}
 use Rattle.model.specs.Fitting.{FitsFor, whole}
 use Rattle.model.specs.declared.Bound.{Bound}
 use Rattle.model.specs.declared.Bound.the-variants.{Rows, Share}
@@ -29,14 +29,20 @@ use Rattle.model.proofs.Tail.{walked, tail-walked}
 
 record Case : Type 0 where
   kind : ℕ
+  width : ℕ
   log : List (Span ℕ)
   bounds : List Bound
   segments : List (Span ℕ)
   answer : Option Reduced
 
+-- with a memory of so many frames
+abbrev caseWith : ℕ → ℕ → List (Span ℕ) → List Bound → List (Span ℕ) → Option Reduced → Case
+caseWith kind width log bounds segments answer =
+    record { kind = kind; width = width; log = log; bounds = bounds; segments = segments; answer = answer }
+
+-- with none
 abbrev caseOf : ℕ → List (Span ℕ) → List Bound → List (Span ℕ) → Option Reduced → Case
-caseOf kind log bounds segments answer =
-    record { kind = kind; log = log; bounds = bounds; segments = segments; answer = answer }
+caseOf kind log bounds segments answer = caseWith kind 1 log bounds segments answer
 
 -- of kind 0
 abbrev case : List (Span ℕ) → List Bound → List (Span ℕ) → Option Reduced → Case
@@ -64,6 +70,11 @@ four-G3 = span 0 0 1 100 ∷ span 0 2 6 210 ∷ span 0 9 10 50 ∷ span 1 0 0 7 
 
 abbrev pub runs-G3 : List (Span ℕ)
 runs-G3 = span 0 0 6 210 ∷ span 0 9 10 50 ∷ span 1 0 0 7 ∷ []
+
+-- the segments of G with width 2
+abbrev pub memory-G : List (Span ℕ)
+memory-G =
+    span 0 0 1 100 ∷ span 0 2 4 300 ∷ span 0 5 5 200 ∷ span 0 6 6 410 ∷ span 0 7 7 210 ∷ span 0 9 11 50 ∷ span 1 0 1 7 ∷ []
 
 -- the starred cases
 abbrev starred-cases : List Case
@@ -193,6 +204,41 @@ greatest-cases =
     (reduces 243 0 (span 0 0 4 9 ∷ []))
     ∷ []
 
+-- cases of a memory. G with width 2: records to the frames 4, 6, 7 and 11, and to frame 1 of group 1. The gap of two frames, 7 and
+-- 8, is open by one; with width 3 it is closed, and two rows do.
+abbrev memory-cases : List Case
+memory-cases =
+    caseWith 0 2 log-G (Rows 2 ∷ []) memory-G
+    none
+    ∷
+    -- 2 × 100 + 3 × 300 + 200 + 410 + 210 over 8 frames is 240
+    caseWith 0 2 log-G (Rows 3 ∷ []) memory-G
+    (reduces 81400 20 (span 0 0 7 240 ∷ span 0 9 11 50 ∷ span 1 0 1 7 ∷ []))
+    ∷
+    caseWith 0 2 log-G (Rows 64 ∷ []) memory-G
+    (reduces 0 31 memory-G)
+    ∷
+    -- the count, the least, the greatest and the mean of what is remembered: frame 6 has the loads 200 and 210
+    caseWith 1 2 log-G (Rows 64 ∷ [])
+    (span 0 0 1 1 ∷ span 0 2 4 2 ∷ span 0 5 5 1 ∷ span 0 6 6 2 ∷ span 0 7 7 1 ∷ span 0 9 11 1 ∷ span 1 0 1 1 ∷ [])
+    (reduces 0 31
+    (span 0 0 1 1 ∷ span 0 2 4 2 ∷ span 0 5 5 1 ∷ span 0 6 6 2 ∷ span 0 7 7 1 ∷ span 0 9 11 1 ∷ span 1 0 1 1 ∷ []))
+    ∷
+    caseWith 2 2 log-G (Rows 64 ∷ []) (span 0 0 4 100 ∷ span 0 5 6 200 ∷ span 0 7 7 210 ∷ span 0 9 11 50 ∷ span 1 0 1 7 ∷ [])
+    (reduces 0 11 (span 0 0 4 100 ∷ span 0 5 6 200 ∷ span 0 7 7 210 ∷ span 0 9 11 50 ∷ span 1 0 1 7 ∷ []))
+    ∷
+    caseWith 3 2 log-G (Rows 3 ∷ []) (span 0 0 1 100 ∷ span 0 2 5 200 ∷ span 0 6 7 210 ∷ span 0 9 11 50 ∷ span 1 0 1 7 ∷ [])
+    (reduces 24600 8 (span 0 0 7 210 ∷ span 0 9 11 50 ∷ span 1 0 1 7 ∷ []))
+    ∷
+    caseWith 4 2 log-G (Rows 3 ∷ [])
+    (span 0 0 1 10000 ∷ span 0 2 4 15000 ∷ span 0 5 5 20000 ∷ span 0 6 6 20500 ∷ span 0 7 7 21000 ∷ span 0 9 11 5000 ∷ span 1 0 1 700 ∷ [])
+    (reduces 135968752 20 (span 0 0 7 15813 ∷ span 0 9 11 5000 ∷ span 1 0 1 700 ∷ []))
+    ∷
+    caseWith 0 3 log-G (Rows 2 ∷ [])
+    (span 0 0 1 100 ∷ span 0 2 5 300 ∷ span 0 6 7 410 ∷ span 0 8 8 210 ∷ span 0 9 12 50 ∷ span 1 0 2 7 ∷ [])
+    (reduces 238232 10 (span 0 0 12 202 ∷ span 1 0 2 7 ∷ []))
+    ∷ []
+
 -- ---- what a row of the table says
 
 abbrev pub bytes : List (Span ℕ) → List ℕ
@@ -200,22 +246,23 @@ bytes [] = []
 bytes (r ∷ rs) = recordBytes r ++ bytes rs
 
 abbrev pub query : ℕ → Bound → Query
-query kind bound = record { kind = kind; bound = bound }
+query kind bound = queryBy kind bound 1
 
 abbrev says : Option Reduced → Outcome Counts
 says none = refused 10 0
 says (some a) = accepted (countsOf a)
 
 -- the query of each bound has this outcome and this answer
-abbrev Answers : ℕ → List ℕ → Option Reduced → List Bound → Type 0
-Answers kind log answer [] = Unit {0}
-Answers kind log answer (b ∷ bs) =
-    (queryOutcome (query kind b) log 768 ≡ says answer) × (reduced kind b (logSegments kind log) ≡ answer)
-    × Answers kind log answer bs
+abbrev Answers : ℕ → ℕ → List ℕ → Option Reduced → List Bound → Type 0
+Answers kind width log answer [] = Unit {0}
+Answers kind width log answer (b ∷ bs) =
+    (queryOutcome (queryBy kind b width) log 768 ≡ says answer) × (reduced kind b (logSegments kind width log) ≡ answer)
+    × Answers kind width log answer bs
 
 abbrev Holds : Case → Type 0
 Holds c =
-    (logSegments (c .kind) (bytes (c .log)) ≡ c .segments) × Answers (c .kind) (bytes (c .log)) (c .answer) (c .bounds)
+    (logSegments (c .kind) (c .width) (bytes (c .log)) ≡ c .segments)
+    × Answers (c .kind) (c .width) (bytes (c .log)) (c .answer) (c .bounds)
 
 abbrev pub All : {A : Type 0} → (A → Type 0) → List A → Type 0
 All P [] = Unit {0}
@@ -228,53 +275,77 @@ outcomeOn q log segs =
     outcome (askRoom slotLength 768 ∷ (orderQuestions q log ++ (ask 10 0 (isSome (countFor (q .kind) (q .bound) segs)) ∷ [])))
     (countsOf (Option·getD (reduced (q .kind) (q .bound) segs) (record { rows = []; error = 0; weighed = 0 })))
 
-abbrev ShortAnswers : ℕ → List ℕ → List (Span ℕ) → Option Reduced → List Bound → Type 0
-ShortAnswers kind log segs answer [] = Unit {0}
-ShortAnswers kind log segs answer (b ∷ bs) =
-    (outcomeOn (query kind b) log segs ≡ says answer) × (reduced kind b segs ≡ answer) × ShortAnswers kind log segs answer bs
+abbrev ShortAnswers : ℕ → ℕ → List ℕ → List (Span ℕ) → Option Reduced → List Bound → Type 0
+ShortAnswers kind width log segs answer [] = Unit {0}
+ShortAnswers kind width log segs answer (b ∷ bs) =
+    (outcomeOn (queryBy kind b width) log segs ≡ says answer) × (reduced kind b segs ≡ answer)
+    × ShortAnswers kind width log segs answer bs
+
+abbrev page : Case → ℕ
+page c = horizon (c .width) (records (bytes (c .log)))
 
 abbrev Short : Case → Type 0
 Short c =
-    (leb (horizon (records (bytes (c .log)))) frameCount ≡ true)
-    × (segmentsOf eqb (value (c .kind) (records (bytes (c .log)))) groupCount (horizon (records (bytes (c .log)))) ≡ c .segments)
-    × ShortAnswers (c .kind) (bytes (c .log)) (c .segments) (c .answer) (c .bounds)
+    (leb (page c) frameCount ≡ true)
+    × (segmentsOf eqb (value (c .kind) (c .width) (records (bytes (c .log)))) groupCount (page c) ≡ c .segments)
+    × ShortAnswers (c .kind) (c .width) (bytes (c .log)) (c .segments) (c .answer) (c .bounds)
 
-long-answers : (kind : ℕ) (log : List ℕ) (segs : List (Span ℕ)) (answer : Option Reduced) (bounds : List Bound)
-    → segments kind (records log) ≡ segs → ShortAnswers kind log segs answer bounds → Answers kind log answer bounds
+long-answers : (kind width : ℕ) (log : List ℕ) (segs : List (Span ℕ)) (answer : Option Reduced) (bounds : List Bound)
+    → segments kind width (records log) ≡ segs → ShortAnswers kind width log segs answer bounds
+    → Answers kind width log answer bounds
 unfolding queryOutcome queryQuestions enoughRows answerOf logSegments outcomeOn
-long-answers kind log segs answer [] e h = tt
-long-answers kind log segs answer (b ∷ bs) e (says-so, is, rest) =
-    (rw e says-so, rw e is, long-answers kind log segs answer bs e rest)
+long-answers kind width log segs answer [] e h = tt
+long-answers kind width log segs answer (b ∷ bs) e (says-so, is, rest) =
+    (rw e says-so, rw e is, long-answers kind width log segs answer bs e rest)
 
 long : (c : Case) → Short c → Holds c
 unfolding logSegments
 long c (fits, found, answers) =
-    let e = short-page (c .kind) (records (bytes (c .log))) fits ∙ found in
-    (e, long-answers (c .kind) (bytes (c .log)) (c .segments) (c .answer) (c .bounds) e answers)
+    let e = short-page (c .kind) (c .width) (records (bytes (c .log))) fits ∙ found in
+    (e, long-answers (c .kind) (c .width) (bytes (c .log)) (c .segments) (c .answer) (c .bounds) e answers)
 
 all-long : (cs : List Case) → All Short cs → All Holds cs
 all-long [] h = tt
 all-long (c ∷ cs) (h, hs) = (long c h, all-long cs hs)
 
-shown : (All Short starred-cases) × (All Short further-cases) × (All Short greatest-cases)
-unfolding horizon sumFrom sumOf every listFrom isSome numberAt bytesOf groupCount frameCount spanLength meets adjacent nowhere recordLength recordBytes recordAt recordCount twins isFirst records meeting sum aggregate aggregated value join fuse place framesFrom groupsFrom segmentsOf segmentAt gap lastGap runsTo block empty totalsOf add totals nearest valueFor rowValue squared errorWith blockError rowOf untried plus below exceeds weigh scan single cell least weighed cutsOf rowsOf fewest within firstThat mostRows chosen rowsTried errorOf gapBelow runs leastOf countFor reducedTo reduced slotLength ask outcome each marked askRoom kindKnown boundKnown groupKnown spanQuestions recordQuestions twinQuestions mostRecords logQuestions orderQuestions countsOf outcomeOn
+shown : (All Short starred-cases) × (All Short further-cases) × (All Short greatest-cases) × (All Short memory-cases)
+unfolding horizon sumFrom sumOf every listFrom isSome numberAt bytesOf groupCount frameCount spanLength meets adjacent nowhere recordLength recordBytes recordAt recordCount twins isFirst records meeting sum aggregate aggregated value join fuse place framesFrom groupsFrom segmentsOf segmentAt gap lastGap runsTo block empty totalsOf add totals nearest valueFor rowValue squared errorWith blockError rowOf untried plus below exceeds weigh scan single cell least weighed cutsOf rowsOf fewest within firstThat mostRows chosen rowsTried errorOf gapBelow runs leastOf countFor reducedTo reduced slotLength ask outcome each marked askRoom kindKnown boundKnown groupKnown spanQuestions recordQuestions twinQuestions mostRecords logQuestions widthKnown askWidth orderQuestions countsOf outcomeOn
 shown = (
   ((refl, refl, (refl, refl, tt)), ((refl, refl, (refl, refl, tt)), ((refl, refl, (refl, refl, tt)), ((refl, refl, (refl, refl, tt)), ((refl, refl, (refl, refl, tt)), ((refl, refl, (refl, refl, (refl, refl, tt))), ((refl, refl, (refl, refl, tt)), ((refl, refl, (refl, refl, tt)), ((refl, refl, (refl, refl, tt)), ((refl, refl, (refl, refl, tt)), ((refl, refl, (refl, refl, tt)), ((refl, refl, (refl, refl, tt)), tt)))))))))))),
   ((refl, refl, (refl, refl, tt)), ((refl, refl, (refl, refl, tt)), ((refl, refl, (refl, refl, tt)), ((refl, refl, (refl, refl, tt)), ((refl, refl, (refl, refl, tt)), ((refl, refl, (refl, refl, tt)), ((refl, refl, (refl, refl, tt)), ((refl, refl, (refl, refl, tt)), ((refl, refl, (refl, refl, tt)), ((refl, refl, (refl, refl, (refl, refl, tt))), tt)))))))))),
   ((refl, refl, (refl, refl, tt)), ((refl, refl, (refl, refl, (refl, refl, tt))), ((refl, refl, (refl, refl, (refl, refl, (refl, refl, tt)))), ((refl, refl, (refl, refl, (refl, refl, tt))), ((refl, refl, (refl, refl, tt)), ((refl, refl, (refl, refl, tt)), tt)))))),
+  ((refl, refl, (refl, refl, tt)), ((refl, refl, (refl, refl, tt)), ((refl, refl, (refl, refl, tt)), ((refl, refl, (refl, refl, tt)), ((refl, refl, (refl, refl, tt)), ((refl, refl, (refl, refl, tt)), ((refl, refl, (refl, refl, tt)), ((refl, refl, (refl, refl, tt)), tt)))))))),
 )
 
--- Every row of the three tables holds.
-pub worked-cases : All Holds starred-cases × All Holds further-cases × All Holds greatest-cases
-worked-cases = (all-long starred-cases (shown .0), all-long further-cases (shown .1), all-long greatest-cases (shown .2))
+-- Every row of the four tables holds.
+pub worked-cases : All Holds starred-cases × All Holds further-cases × All Holds greatest-cases × All Holds memory-cases
+worked-cases =
+    (all-long starred-cases (shown .0), all-long further-cases (shown .1), all-long greatest-cases (shown .2), all-long memory-cases (shown .3))
 
 -- ---- the last frame: 65,535 has a value, 65,536 has none, and a span to the last frame has its whole length
 
-pub last-frame : (value 0 (span 0 65535 65535 5 ∷ []) 0 65535 ≡ some 5)
-    × (value 0 (span 0 65535 65536 5 ∷ []) 0 65536 ≡ none)
+pub last-frame : (value 0 1 (span 0 65535 65535 5 ∷ []) 0 65535 ≡ some 5)
+    × (value 0 1 (span 0 65535 65536 5 ∷ []) 0 65536 ≡ none)
     × (reduced 0 (Rows 1) (span 0 65534 65534 0 ∷ span 0 65535 65535 10 ∷ []) ≡ reduces 50 0 (span 0 65534 65535 5 ∷ []))
-unfolding horizon sumFrom sumOf every listFrom isSome numberAt bytesOf groupCount frameCount spanLength meets adjacent nowhere recordLength recordBytes recordAt recordCount twins isFirst records meeting sum aggregate aggregated value join fuse place framesFrom groupsFrom segmentsOf segmentAt gap lastGap runsTo block empty totalsOf add totals nearest valueFor rowValue squared errorWith blockError rowOf untried plus below exceeds weigh scan single cell least weighed cutsOf rowsOf fewest within firstThat mostRows chosen rowsTried errorOf gapBelow runs leastOf countFor reducedTo reduced slotLength ask outcome each marked askRoom kindKnown boundKnown groupKnown spanQuestions recordQuestions twinQuestions mostRecords logQuestions orderQuestions countsOf outcomeOn
+unfolding horizon sumFrom sumOf every listFrom isSome numberAt bytesOf groupCount frameCount spanLength meets adjacent nowhere recordLength recordBytes recordAt recordCount twins isFirst records meeting sum aggregate aggregated value join fuse place framesFrom groupsFrom segmentsOf segmentAt gap lastGap runsTo block empty totalsOf add totals nearest valueFor rowValue squared errorWith blockError rowOf untried plus below exceeds weigh scan single cell least weighed cutsOf rowsOf fewest within firstThat mostRows chosen rowsTried errorOf gapBelow runs leastOf countFor reducedTo reduced slotLength ask outcome each marked askRoom kindKnown boundKnown groupKnown spanQuestions recordQuestions twinQuestions mostRecords logQuestions widthKnown askWidth orderQuestions countsOf outcomeOn
 last-frame = (refl, refl, refl)
+
+-- ---- the ends of a memory: w − 1 frames behind a record's last one and no further, none before its first, and none past 65,535
+
+abbrev one-load : ℕ → List (Span ℕ)
+one-load f = span 0 f f 5 ∷ []
+
+pub memory-ends : (value 0 4096 (one-load 0) 0 0 ≡ some 5)
+    × (value 0 4096 (one-load 0) 0 4095 ≡ some 5)
+    × (value 0 4096 (one-load 0) 0 4096 ≡ none)
+    × (value 0 4096 (one-load 9) 0 8 ≡ none)
+    × (value 0 2 (one-load 65534) 0 65535 ≡ some 5)
+    × (value 0 2 (one-load 65533) 0 65535 ≡ none)
+    × (value 0 2 (one-load 65535) 0 65535 ≡ some 5)
+    × (value 0 2 (one-load 65535) 0 65536 ≡ none)
+    × (value 0 2 (one-load 3) 1 3 ≡ none)
+unfolding groupCount frameCount meets meeting sum aggregate aggregated value
+memory-ends = (refl, refl, refl, refl, refl, refl, refl, refl, refl)
 
 -- ---- slots by their bytes
 
@@ -398,13 +469,13 @@ slotOn q log segs slot =
     (slotBytes byBound (q .kind) (answer .error) (answer .rows) ++ drop slotLength slot)
     slot
 
-slot-on : (q : Query) (log : List ℕ) (segs : List (Span ℕ)) (slot : List ℕ) → logSegments (q .kind) log ≡ segs
+slot-on : (q : Query) (log : List ℕ) (segs : List (Span ℕ)) (slot : List ℕ) → querySegments q log ≡ segs
     → querySlot q log slot ≡ slotOn q log segs slot
 unfolding querySlot queryQuestions enoughRows answerOf logSegments slotOn
 slot-on q log segs slot e = rw e
 
 written-G : slotOn (query 0 (Rows 4)) (bytes log-G) segments-G (replicate 770 9) ≡ wholeSlot bytes-G ++ (9 ∷ 9 ∷ [])
-unfolding sumFrom sumOf every listFrom isSome numberAt bytesOf groupCount frameCount spanLength adjacent nowhere recordLength recordBytes recordAt recordCount twins isFirst records segmentAt gap lastGap runsTo block empty totalsOf add totals nearest valueFor rowValue squared errorWith blockError rowOf untried plus below exceeds weigh scan single cell least weighed cutsOf rowsOf fewest within firstThat mostRows chosen rowsTried errorOf gapBelow runs leastOf countFor reducedTo reduced slotLength ask each marked askRoom kindKnown boundKnown groupKnown spanQuestions recordQuestions twinQuestions mostRecords logQuestions orderQuestions lent rowBytes rowsBytes usedBytes slotBytes slotOn
+unfolding sumFrom sumOf every listFrom isSome numberAt bytesOf groupCount frameCount spanLength adjacent nowhere recordLength recordBytes recordAt recordCount twins isFirst records segmentAt gap lastGap runsTo block empty totalsOf add totals nearest valueFor rowValue squared errorWith blockError rowOf untried plus below exceeds weigh scan single cell least weighed cutsOf rowsOf fewest within firstThat mostRows chosen rowsTried errorOf gapBelow runs leastOf countFor reducedTo reduced slotLength ask each marked askRoom kindKnown boundKnown groupKnown spanQuestions recordQuestions twinQuestions mostRecords logQuestions widthKnown askWidth orderQuestions lent rowBytes rowsBytes usedBytes slotBytes slotOn
 written-G = refl
 
 -- what a query of G with c = 4 leaves in a buffer of 770 bytes: the slot, and the last two bytes as they were
@@ -414,6 +485,6 @@ slot-of-G = slot-on (query 0 (Rows 4)) (bytes log-G) segments-G (replicate 770 9
 -- ---- a list that does not fit for kind 3
 
 -- loads 0 and 1 in one row that holds 0, the nearest mean: one below the second load
-pub one-below : FitsFor greatestKind (value greatestKind (span 0 0 0 0 ∷ span 0 1 1 1 ∷ [])) (map whole (span 0 0 1 0 ∷ [])) → ⊥
+pub one-below : FitsFor greatestKind (value greatestKind 1 (span 0 0 0 0 ∷ span 0 1 1 1 ∷ [])) (map whole (span 0 0 1 0 ∷ [])) → ⊥
 unfolding groupCount frameCount meets holds meeting aggregated aggregate value valueIn whole
 one-below f = omega (arith, f .nowhereBelow refl 0 1 1 (pos 0) refl refl)

@@ -5,3 +5,4 @@ pub mod Cases
 pub mod WindowCases
 pub mod TwinCases
 pub mod OrderCases
+pub mod WidthCases

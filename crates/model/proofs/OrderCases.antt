@@ -38,7 +38,7 @@ orders-worked =
 
 -- log G with the last record first, and with its groups and frames mixed
 abbrev Cut : List (Span ℕ) → Type 0
-Cut log = (segments 0 log ≡ segments-G) × (segments 3 log ≡ segments-G3)
+Cut log = (segments 0 1 log ≡ segments-G) × (segments 3 1 log ≡ segments-G3)
 
 abbrev reversed-G : List (Span ℕ)
 reversed-G = span 1 0 0 7 ∷ span 0 9 10 50 ∷ span 0 6 6 210 ∷ span 0 2 5 200 ∷ span 0 0 3 100 ∷ []
@@ -49,7 +49,7 @@ mixed-G = span 0 6 6 210 ∷ span 1 0 0 7 ∷ span 0 2 5 200 ∷ span 0 0 3 100 
 pub shuffled-G : All Cut (reversed-G ∷ mixed-G ∷ [])
 unfolding horizon groupCount frameCount meets adjacent meeting sum aggregate aggregated value join fuse place framesFrom groupsFrom segmentsOf
 shuffled-G =
-    ((short-page 0 reversed-G refl, short-page 3 reversed-G refl), ((short-page 0 mixed-G refl, short-page 3 mixed-G refl), tt))
+    ((short-page 0 1 reversed-G refl, short-page 3 1 reversed-G refl), ((short-page 0 1 mixed-G refl, short-page 3 1 mixed-G refl), tt))
 
 -- the same records have the same loads in all
 total-order : {rs ss : List (Span ℕ)} → List·Permᴰ rs ss → sumOf (λ r. r .value) rs ≡ sumOf (λ r. r .value) ss

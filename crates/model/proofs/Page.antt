@@ -13,26 +13,26 @@ use Rattle.model.specs.Spans.{Span, groupCount, frameCount, meets}
 use Rattle.model.specs.Log.{meeting, aggregated, value}
 use Rattle.model.specs.Segments.{place, framesFrom, groupsFrom, fuse, segmentsOf, segments}
 
--- one more than the greatest last frame
-unfoldable pub horizon : List (Span ℕ) → ℕ
-horizon [] = 0
-horizon (r ∷ rs) = max (suc (r .last)) (horizon rs)
+-- one more than the last frame that has some record in its memory
+unfoldable pub horizon : ℕ → List (Span ℕ) → ℕ
+horizon width [] = 0
+horizon width (r ∷ rs) = max (suc (r .last + (width - 1))) (horizon width rs)
 
 and-false : (a : Bool) → a && false ≡ false
 and-false true = refl
 and-false false = refl
 
-meeting-none : (rs : List (Span ℕ)) (g f : ℕ) → horizon rs ≤ f → meeting rs g f f ≡ []
+meeting-none : (width : ℕ) (rs : List (Span ℕ)) (g f : ℕ) → horizon width rs ≤ f → meeting rs g (f - (width - 1)) f ≡ []
 unfolding horizon meeting meets
-meeting-none [] g f h = refl
-meeting-none (r ∷ rs) g f h =
-    let late : leb f (r .last) ≡ false = lt-leb f (r .last) (omega arith) in
-    rw (late, and-false (eqb (r .group) g && leb (r .first) f)) (meeting-none rs g f (omega arith))
+meeting-none width [] g f h = refl
+meeting-none width (r ∷ rs) g f h =
+    let late : leb (f - (width - 1)) (r .last) ≡ false = lt-leb (f - (width - 1)) (r .last) (omega arith) in
+    rw (late, and-false (eqb (r .group) g && leb (r .first) f)) (meeting-none width rs g f (omega arith))
 
 -- past the page no frame has a value
-pub value-none : (kind : ℕ) (rs : List (Span ℕ)) (g f : ℕ) → horizon rs ≤ f → value kind rs g f ≡ none
+pub value-none : (kind width : ℕ) (rs : List (Span ℕ)) (g f : ℕ) → horizon width rs ≤ f → value kind width rs g f ≡ none
 unfolding value aggregated
-value-none kind rs g f h = rw (meeting-none rs g f h) (either (ltb g groupCount && ltb f frameCount))
+value-none kind width rs g f h = rw (meeting-none width rs g f h) (either (ltb g groupCount && ltb f frameCount))
   where
     either : (b : Bool) → cond {A = Option ℕ} b none none ≡ none
     either true = refl
@@ -57,12 +57,12 @@ module _ {A : Type 0} (val : ℕ → ℕ → Option A) (page : ℕ) (blank : (g 
   groups-short more g (suc count) =
       rw (groups-short more (suc g) count) (frames-short g 0 page more (groupsFrom val page (suc g) count) (omega arith))
 
-pub short-page : (kind : ℕ) (rs : List (Span ℕ)) → leb (horizon rs) frameCount ≡ true
-    → segments kind rs ≡ segmentsOf eqb (value kind rs) groupCount (horizon rs)
+pub short-page : (kind width : ℕ) (rs : List (Span ℕ)) → leb (horizon width rs) frameCount ≡ true
+    → segments kind width rs ≡ segmentsOf eqb (value kind width rs) groupCount (horizon width rs)
 unfolding segments segmentsOf
-short-page kind rs h =
-    let fits = leb-true (horizon rs) frameCount h in
-    let parts : frameCount ≡ horizon rs + (frameCount - horizon rs) = omega arith in
-    ap (λ (n : ℕ). foldr (fuse eqb) [] (groupsFrom (value kind rs) n 0 groupCount)) parts
+short-page kind width rs h =
+    let fits = leb-true (horizon width rs) frameCount h in
+    let parts : frameCount ≡ horizon width rs + (frameCount - horizon width rs) = omega arith in
+    ap (λ (n : ℕ). foldr (fuse eqb) [] (groupsFrom (value kind width rs) n 0 groupCount)) parts
     ∙ ap (foldr (fuse eqb) [])
-    (groups-short (value kind rs) (horizon rs) (λ g f. value-none kind rs g f) (frameCount - horizon rs) 0 groupCount)
+    (groups-short (value kind width rs) (horizon width rs) (λ g f. value-none kind width rs g f) (frameCount - horizon width rs) 0 groupCount)

@@ -11,7 +11,7 @@ use Rattle.model.specs.Split.{mostRows}
 use Rattle.model.specs.Windows.{boundIn, beat, beatCount, scene, windowCount, windowAt, windows, windowRow, groupRows, spanRows}
 use Rattle.model.specs.Slot.{slotLength, rowBytes, rowsBytes, usedBytes, slotBytes}
 use Rattle.model.specs.Questions.{ask, Outcome, refused, accepted, outcome, lent, each, marked, askRoom, kindKnown, groupKnown, spanQuestions, recordQuestions, twinQuestions, mostRecords, logQuestions}
-use Rattle.model.specs.Questions.{sceneFollows, sceneKnown, mostScenes, scenesKnown, ruleQuestion, windowRows, rowsQuestion, ruledOrder, ruledQuestions}
+use Rattle.model.specs.Questions.{sceneFollows, sceneKnown, mostScenes, scenesKnown, ruleQuestion, widthQuestions, windowRows, rowsQuestion, ruledOrder, ruledQuestions}
 use Rattle.model.specs.Calls.{Counts, countsOf, ruledAnswer, ruledMark, ruledOutcome, ruledSlot, noFrames, beatQuery, sceneQuery}
 use Rattle.model.specs.declared.RuledQuery.{RuledQuery}
 use Rattle.model.proofs.Cases.{All, span, bytes, log-G, wholeSlot}
@@ -97,7 +97,7 @@ Holds c =
 
 -- Every row of the table holds.
 pub windows-worked : All Holds window-cases
-unfolding listFrom every joined numberAt bytesOf groupCount frameCount meets recordLength recordBytes recordAt recordCount twins isFirst records meeting sum aggregate aggregated mostRows boundIn beat beatCount scene windowCount windowAt windows windowRow groupRows spanRows slotLength ask outcome lent each marked askRoom kindKnown groupKnown spanQuestions recordQuestions twinQuestions mostRecords logQuestions sceneFollows sceneKnown mostScenes scenesKnown ruleQuestion windowRows rowsQuestion ruledOrder ruledQuestions countsOf ruledAnswer ruledOutcome noFrames beatQuery sceneQuery
+unfolding listFrom every joined numberAt bytesOf groupCount frameCount meets recordLength recordBytes recordAt recordCount twins isFirst records meeting sum aggregate aggregated mostRows boundIn beat beatCount scene windowCount windowAt windows windowRow groupRows spanRows slotLength ask outcome lent each marked askRoom kindKnown groupKnown spanQuestions recordQuestions twinQuestions mostRecords logQuestions sceneFollows sceneKnown mostScenes scenesKnown ruleQuestion widthQuestions windowRows rowsQuestion ruledOrder ruledQuestions countsOf ruledAnswer ruledOutcome noFrames beatQuery sceneQuery
 windows-worked = ((refl, refl), ((refl, refl), ((refl, refl), ((refl, refl), ((refl, refl), ((refl, refl), ((refl, refl), ((refl, refl), ((refl, refl), ((refl, refl), ((refl, refl), ((refl, refl), ((refl, refl), ((refl, refl), ((refl, refl), ((refl, refl), ((refl, refl), ((refl, refl), ((refl, refl), ((refl, refl), ((refl, refl), tt)))))))))))))))))))))
 
 -- the slot of the published example, in a buffer of 770 bytes: the last two bytes are kept
@@ -109,5 +109,5 @@ pub slot-of-projects : ruledSlot (sceneQuery 4 (1 ∷ 5 ∷ []) (4 ∷ 8 ∷ [])
     ∷ 0x50 ∷ 0x52 ∷ 1 ∷ 1 ∷ 0 ∷ 4 ∷ 0 ∷ 0x50 ∷ 0xC3 ∷ 0 ∷ 0
     ∷ 0x50 ∷ 0x52 ∷ 1 ∷ 5 ∷ 0 ∷ 8 ∷ 0 ∷ 0x50 ∷ 0xC3 ∷ 0 ∷ 0 ∷ [])
     ++ (9 ∷ 9 ∷ [])
-unfolding listFrom every joined numberAt bytesOf groupCount frameCount meets recordLength recordBytes recordAt recordCount twins isFirst records meeting sum aggregate aggregated mostRows boundIn scene windowCount windowAt windows windowRow groupRows spanRows slotLength rowBytes rowsBytes usedBytes slotBytes ask lent each marked askRoom kindKnown groupKnown spanQuestions recordQuestions twinQuestions mostRecords logQuestions sceneFollows sceneKnown mostScenes scenesKnown ruleQuestion windowRows rowsQuestion ruledOrder ruledQuestions countsOf ruledAnswer ruledMark ruledSlot noFrames sceneQuery
+unfolding listFrom every joined numberAt bytesOf groupCount frameCount meets recordLength recordBytes recordAt recordCount twins isFirst records meeting sum aggregate aggregated mostRows boundIn scene windowCount windowAt windows windowRow groupRows spanRows slotLength rowBytes rowsBytes usedBytes slotBytes ask lent each marked askRoom kindKnown groupKnown spanQuestions recordQuestions twinQuestions mostRecords logQuestions sceneFollows sceneKnown mostScenes scenesKnown ruleQuestion widthQuestions windowRows rowsQuestion ruledOrder ruledQuestions countsOf ruledAnswer ruledMark ruledSlot noFrames sceneQuery
 slot-of-projects = refl

@@ -14,7 +14,7 @@ use Rattle.model.specs.Windows.{boundIn}
 use Rattle.model.specs.Slot.{slotLength, byBound, byWindows, slotBytes, slotMark, slotKind, slotCount, slotError, slotRow, slotRows, valueIn}
 use Rattle.model.specs.Questions.{Question, ask, askRoom, kindKnown, Outcome, refused, accepted, outcome, lent}
 use Rattle.model.specs.Questions.{writeQuestions, withoutTwinsQuestions, segmentsQuestions, queryQuestions, slotQuestions, lookupQuestions}
-use Rattle.model.specs.Questions.{mostScenes, withBound, windowRows, ruledQuestions}
+use Rattle.model.specs.Questions.{mostScenes, queryBy, withBound, windowRows, ruledQuestions}
 use Rattle.model.specs.declared.Record.{Record}
 use Rattle.model.specs.declared.Segment.{Segment}
 use Rattle.model.specs.declared.Row.{Row}
@@ -94,16 +94,17 @@ unfoldable pub segmentsCase : SegmentsAnswer → Outcome ℕ
 segmentsCase (segments-answer.Found n) = accepted n
 segmentsCase (segments-answer.Refused r) = refused (r .question) (r .index)
 
-unfoldable pub logSegments : ℕ → List ℕ → List (Span ℕ)
-logSegments kind log = segments kind (records log)
+unfoldable pub logSegments : ℕ → ℕ → List ℕ → List (Span ℕ)
+logSegments kind width log = segments kind width (records log)
 
-unfoldable pub segmentsOutcome : ℕ → List ℕ → ℕ → Outcome ℕ
-segmentsOutcome kind log room = outcome (segmentsQuestions kind log room) (length (logSegments kind log))
+unfoldable pub segmentsOutcome : ℕ → ℕ → List ℕ → ℕ → Outcome ℕ
+segmentsOutcome kind width log room =
+    outcome (segmentsQuestions kind width log room) (length (logSegments kind width log))
 
-unfoldable pub filledList : ℕ → List ℕ → List Segment → List Segment
-filledList kind log list =
-    lent (segmentsQuestions kind log (length list))
-    (map segmentOf (logSegments kind log) ++ drop (length (logSegments kind log)) list)
+unfoldable pub filledList : ℕ → ℕ → List ℕ → List Segment → List Segment
+filledList kind width log list =
+    lent (segmentsQuestions kind width log (length list))
+    (map segmentOf (logSegments kind width log) ++ drop (length (logSegments kind width log)) list)
     list
 
 -- The query: rows, error and cuts weighed.
@@ -118,10 +119,14 @@ queryCase (query-answer.Written rows error weighed) =
     accepted (record { rows = rows; error = error; weighed = weighed })
 queryCase (query-answer.Refused r) = refused (r .question) (r .index)
 
+-- the segments that a query reduces
+abbrev pub querySegments : Query → List ℕ → List (Span ℕ)
+querySegments q log = logSegments (q .kind) (q .width) log
+
 -- the paper's answer to a query, of 0 rows where there is none
 unfoldable pub answerOf : Query → List ℕ → Reduced
 answerOf q log =
-    Option·getD (reduced (q .kind) (q .bound) (logSegments (q .kind) log)) (record { rows = []; error = 0; weighed = 0 })
+    Option·getD (reduced (q .kind) (q .bound) (querySegments q log)) (record { rows = []; error = 0; weighed = 0 })
 
 unfoldable pub countsOf : Reduced → Counts
 countsOf r = record { rows = length (r .rows); error = r .error; weighed = r .weighed }
@@ -166,7 +171,7 @@ ruledSlot q log slot =
     slot
 
 -- Queries by a rule: with a bound, every so many frames from a start frame on, and by scenes, whose first and last frames are two
--- lists. Lists of unequal length are no count of scenes.
+-- lists. Lists of unequal length are no count of scenes. Where no width is given it is 1; by windows it is not read.
 
 unfoldable pub noFrames : List ℕ
 noFrames = replicate mostScenes 0
@@ -176,17 +181,19 @@ ruleOf (Rows c) = rule.Rows c
 ruleOf (Share p) = rule.Share p
 
 unfoldable pub boundedQuery : Query → RuledQuery
-boundedQuery q = record { kind = q .kind; rule = ruleOf (q .bound); firsts = noFrames; lasts = noFrames }
+boundedQuery q =
+    record { kind = q .kind; rule = ruleOf (q .bound); width = q .width; firsts = noFrames; lasts = noFrames }
 
 unfoldable pub beatQuery : ℕ → ℕ → ℕ → RuledQuery
 beatQuery kind length start =
-    record { kind = kind; rule = rule.Every length start; firsts = noFrames; lasts = noFrames }
+    record { kind = kind; rule = rule.Every length start; width = 1; firsts = noFrames; lasts = noFrames }
 
 unfoldable pub sceneQuery : ℕ → List ℕ → List ℕ → RuledQuery
 sceneQuery kind firsts lasts =
     record {
       kind = kind;
       rule = rule.Scenes (cond (eqb (length firsts) (length lasts)) (length firsts) 0);
+      width = 1;
       firsts = take mostScenes (firsts ++ noFrames);
       lasts = take mostScenes (lasts ++ noFrames);
     }
@@ -201,29 +208,27 @@ unfoldable pub letterQuestions : ℕ → ℕ → List Question
 letterQuestions kind room = askRoom slotLength room ∷ ask 2 0 (kindKnown kind) ∷ ask 3 0 false ∷ []
 
 -- all questions of a query by letter: where the letter names a bound, that query's
-unfoldable pub byLetterQuestions : ℕ → ℕ → ℕ → List ℕ → ℕ → List Question
-byLetterQuestions kind letter x log room =
+unfoldable pub byLetterQuestions : ℕ → ℕ → ℕ → ℕ → List ℕ → ℕ → List Question
+byLetterQuestions kind letter x width log room =
     elim (boundOf letter x) [
       | none ↦ letterQuestions kind room
-      | some bound ↦ queryQuestions (record { kind = kind; bound = bound }) log room
+      | some bound ↦ queryQuestions (queryBy kind bound width) log room
     ]
 
-unfoldable pub letterOutcome : ℕ → ℕ → ℕ → List ℕ → ℕ → Outcome Counts
-letterOutcome kind letter x log room =
+unfoldable pub letterOutcome : ℕ → ℕ → ℕ → ℕ → List ℕ → ℕ → Outcome Counts
+letterOutcome kind letter x width log room =
     elim (boundOf letter x) [
       | none ↦ outcome (letterQuestions kind room) (record { rows = 0; error = 0; weighed = 0 })
-      | some bound ↦ queryOutcome (record { kind = kind; bound = bound }) log room
+      | some bound ↦ queryOutcome (queryBy kind bound width) log room
     ]
 
-unfoldable pub letterSlot : ℕ → ℕ → ℕ → List ℕ → List ℕ → List ℕ
-letterSlot kind letter x log slot =
-    elim (boundOf letter x)
-    [ none ↦ slot | some bound ↦ querySlot (record { kind = kind; bound = bound }) log slot ]
+unfoldable pub letterSlot : ℕ → ℕ → ℕ → ℕ → List ℕ → List ℕ → List ℕ
+letterSlot kind letter x width log slot =
+    elim (boundOf letter x) [ none ↦ slot | some bound ↦ querySlot (queryBy kind bound width) log slot ]
 
-unfoldable pub letterWeighed : ℕ → ℕ → ℕ → List ℕ → ℕ → ℕ
-letterWeighed kind letter x log room =
-    elim (boundOf letter x)
-    [ none ↦ 0 | some bound ↦ queryWeighed (record { kind = kind; bound = bound }) log room ]
+unfoldable pub letterWeighed : ℕ → ℕ → ℕ → ℕ → List ℕ → ℕ → ℕ
+letterWeighed kind letter x width log room =
+    elim (boundOf letter x) [ none ↦ 0 | some bound ↦ queryWeighed (queryBy kind bound width) log room ]
 
 -- The reader: which header, kind, error and row count, and the rows beside them.
 

@@ -1,5 +1,5 @@
 -- A slot against its log: the questions of the call, and what it answers. The rows read are held against the values of the slot's
--- kind frame by frame, and nothing here knows of segments.
+-- kind and a width frame by frame, and nothing here knows of segments.
 use Prim.Native.Nat.{ℕ}
 use mathlib.Core.Bool.{Bool, true, false, cond}
 use mathlib.Core.List.{List, [], _∷_, _++_, map}
@@ -10,7 +10,7 @@ use Rattle.model.specs.Common.{every}
 use Rattle.model.specs.Spans.{Span, groupCount, frameCount}
 use Rattle.model.specs.Log.{records, greatestKind, value}
 use Rattle.model.specs.Slot.{slotLength, byBound, slotKind, slotError, slotRows, valueIn}
-use Rattle.model.specs.Questions.{Question, ask, askRoom, marked, logQuestions, contentQuestions, Outcome, outcome}
+use Rattle.model.specs.Questions.{Question, ask, askRoom, askWidth, marked, logQuestions, contentQuestions, Outcome, outcome}
 use Rattle.model.specs.Fitting.{squaredError, whole}
 
 -- the test holds of every frame of every group
@@ -50,13 +50,14 @@ againstQuestions kind error rows val =
 unfoldable pub boundedQuestions : List ℕ → List Question
 boundedQuestions slot = ask 11 0 (marked slot 0 0x50 byBound) ∷ contentQuestions slot
 
--- 1, the log's, the slot's, and then 22 to 24
-unfoldable pub checkQuestions : List ℕ → List ℕ → List Question
-checkQuestions log slot =
+-- 1, 25, the log's, the slot's, and then 22 to 24
+unfoldable pub checkQuestions : ℕ → List ℕ → List ℕ → List Question
+checkQuestions width log slot =
     askRoom slotLength (length slot)
+    ∷ askWidth width
     ∷ (logQuestions log
     ++ (boundedQuestions slot
-    ++ againstQuestions (slotKind slot) (slotError slot) (slotRows slot) (value (slotKind slot) (records log))))
+    ++ againstQuestions (slotKind slot) (slotError slot) (slotRows slot) (value (slotKind slot) width (records log))))
 
-unfoldable pub checkOutcome : List ℕ → List ℕ → Outcome (Unit {0})
-checkOutcome log slot = outcome (checkQuestions log slot) tt
+unfoldable pub checkOutcome : ℕ → List ℕ → List ℕ → Outcome (Unit {0})
+checkOutcome width log slot = outcome (checkQuestions width log slot) tt

@@ -1,6 +1,6 @@
 -- What the tool owes its user, as statements about the definitions. The proofs are in the crate `theory`; the calls of the
 -- tool promise to answer as the definitions do, so that each statement is one about the calls.
-use Prim.Native.Nat.{ℕ, suc, _+_, _*_, _^_, _≤_, _<_, min}
+use Prim.Native.Nat.{ℕ, suc, _+_, _-_, _*_, _^_, _≤_, _<_, min}
 use mathlib.Core.Bool.{true, false}
 use mathlib.Core.List.{List, [], _∷_, _++_, map, List·Memᴰ, List·Permᴰ}
 use mathlib.Core.Logic.{_⊎_, _↔_}
@@ -16,16 +16,17 @@ use Rattle.model.specs.Split.{Reduced, errorOf, gapBelow, runs, rowsOf, 
 use Rattle.model.specs.Reductions.{IsReduction, Merges, IsAnswer, reductionError}
 use Rattle.model.specs.Windows.{boundIn}
 use Rattle.model.specs.Slot.{slotLength, byBound, byWindows, slotBytes, slotMark, valueIn}
-use Rattle.model.specs.Questions.{Question, Outcome, refused, accepted, kindKnown, boundKnown, rowKnown, follows}
+use Rattle.model.specs.Questions.{Question, Outcome, refused, accepted, kindKnown, boundKnown, widthKnown, rowKnown, follows}
 use Rattle.model.specs.Questions.{fileQuestions, logQuestions, withoutTwinsQuestions, orderQuestions, writeQuestions, segmentsQuestions, queryQuestions, slotQuestions, lookupQuestions, mostSegments}
-use Rattle.model.specs.Questions.{ruleQuestion, withBound, windowRows, ruledOrder, ruledQuestions}
-use Rattle.model.specs.Calls.{Counts, Header, writeOutcome, writtenBuffer, withoutTwinsOutcome, withoutTwinsBuffer, segmentsOutcome, filledList, logSegments, queryOutcome, querySlot, answerOf, countsOf, readOutcome, readRows, readListQuestions, readListOutcome, readList, stepOutcome, stepNext, lookupOutcome}
+use Rattle.model.specs.Questions.{ruleQuestion, widthQuestions, queryBy, withBound, windowRows, ruledOrder, ruledQuestions}
+use Rattle.model.specs.Calls.{Counts, Header, writeOutcome, writtenBuffer, withoutTwinsOutcome, withoutTwinsBuffer, segmentsOutcome, filledList, logSegments, querySegments, queryOutcome, querySlot, answerOf, countsOf, readOutcome, readRows, readListQuestions, readListOutcome, readList, stepOutcome, stepNext, lookupOutcome}
 use Rattle.model.specs.Calls.{ruledOutcome, ruledSlot, beatQuery}
 use Rattle.model.specs.Calls.{cutsWeighed, queryWeighed, boundOf, byLetterQuestions, letterOutcome, letterSlot, letterWeighed}
 use Rattle.model.specs.LowerHalves.{lowerValue, lowerError, lowerErrorOf, lowerAnswer, lowerOutcome}
 use Rattle.model.specs.Guarantee.{Choices, LeastOfFewest, BestRows, NoRows}
 use Rattle.model.specs.Fitting.{hits, due, AtMost, FitsFor, whole, rowLists}
 use Rattle.model.specs.Check.{checkQuestions, checkOutcome}
+use Rattle.model.specs.NoMemory.{plainValue, plainSegmentsOutcome, plainList, plainOutcome, plainSlot, plainCheck}
 use Rattle.model.specs.declared.Bound.{Bound}
 use Rattle.model.specs.declared.Bound.the-variants as bound
 use Rattle.model.specs.declared.Query.{Query}
@@ -63,16 +64,16 @@ pub record Demand1 : Type 0 where
   pub withoutTwins : (log buffer : List ℕ)
       → Asks (withoutTwinsQuestions log (length buffer)) (withoutTwinsOutcome log (length buffer)) buffer
       (withoutTwinsBuffer log buffer)
-  pub segments : (kind : ℕ) (log : List ℕ) (list : List Segment)
-      → Asks (segmentsQuestions kind log (length list)) (segmentsOutcome kind log (length list)) list
-      (filledList kind log list)
+  pub segments : (kind width : ℕ) (log : List ℕ) (list : List Segment)
+      → Asks (segmentsQuestions kind width log (length list)) (segmentsOutcome kind width log (length list)) list
+      (filledList kind width log list)
   pub query : (q : Query) (log slot : List ℕ)
       → Asks (queryQuestions q log (length slot)) (queryOutcome q log (length slot)) slot (querySlot q log slot)
   pub ruled : (q : RuledQuery) (log slot : List ℕ)
       → Asks (ruledQuestions q log (length slot)) (ruledOutcome q log (length slot)) slot (ruledSlot q log slot)
-  pub letter : (kind letter x : ℕ) (log slot : List ℕ)
-      → Asks (byLetterQuestions kind letter x log (length slot)) (letterOutcome kind letter x log (length slot)) slot
-      (letterSlot kind letter x log slot)
+  pub letter : (kind letter x width : ℕ) (log slot : List ℕ)
+      → Asks (byLetterQuestions kind letter x width log (length slot)) (letterOutcome kind letter x width log (length slot)) slot
+      (letterSlot kind letter x width log slot)
   pub read : (slot : List ℕ) → Asks (slotQuestions slot) (readOutcome slot) slot slot
   pub readList : (slot : List ℕ) (list : List Row)
       → Asks (readListQuestions slot (length list)) (readListOutcome slot (length list)) list (readList slot list)
@@ -80,7 +81,8 @@ pub record Demand1 : Type 0 where
       → Asks (slotQuestions slot) (stepOutcome slot number) number (stepNext slot number)
   pub lookup : (slot : List ℕ) (group frame : ℕ)
       → Asks (lookupQuestions slot group) (lookupOutcome slot group frame) slot slot
-  pub check : (log slot : List ℕ) → Asks (checkQuestions log slot) (checkOutcome log slot) slot slot
+  pub check : (width : ℕ) (log slot : List ℕ)
+      → Asks (checkQuestions width log slot) (checkOutcome width log slot) slot slot
 
 -- Demand 2.
 
@@ -168,18 +170,21 @@ pub record Reads (slot : List ℕ) (mark kind error : ℕ) (rows : List (Span �
   pub body : readRows slot ≡ rows
 
 pub record Demand2 : Type 0 where
-  pub segmentation : (kind : ℕ) (log : List ℕ) → Segmentation (value kind (records log)) (logSegments kind log)
-  -- these hold of every log that passes 4 to 9, with twins or without
-  pub count : (kind : ℕ) (log : List ℕ) → AllPass (fileQuestions log) → length (logSegments kind log) ≤ mostSegments
-  -- kind 4 of a frame is the mean of the loads of the records that contain it
-  pub mean : (log : List ℕ) → AllPass (fileQuestions log) → (g f v : ℕ) → value 4 (records log) g f ≡ some v
-      → MeanInHundredths (meeting (records log) g f f) v
+  -- these hold at every width
+  pub segmentation : (kind width : ℕ) (log : List ℕ)
+      → Segmentation (value kind width (records log)) (logSegments kind width log)
+  -- and these of every log that passes 4 to 9, with twins or without
+  pub count : (kind width : ℕ) (log : List ℕ) → AllPass (fileQuestions log) → length (logSegments kind width log) ≤ mostSegments
+  -- kind 4 of a frame is the mean of the loads of the records that contain at least one of the last `width` frames
+  pub mean : (width : ℕ) (log : List ℕ) → AllPass (fileQuestions log) → (g f v : ℕ) → value 4 width (records log) g f ≡ some v
+      → MeanInHundredths (meeting (records log) g (f - (width - 1)) f) v
+  -- the sum over records keeps to width 1
   pub conserved : (log : List ℕ) → Bytes log → AllPass (fileQuestions log)
-      → sumOf (λ s. spanLength s * s .value) (logSegments 0 log)
+      → sumOf (λ s. spanLength s * s .value) (logSegments 0 1 log)
       ≡ sumOf (λ r. spanLength r * r .value) (records log)
-  pub merging : (kind : ℕ) (log cuts : List ℕ)
-      → IsReduction (gapBelow (logSegments kind log)) (length (logSegments kind log)) cuts
-      ↔ Merges (gap (segmentAt (logSegments kind log))) (length (logSegments kind log)) cuts
+  pub merging : (kind width : ℕ) (log cuts : List ℕ)
+      → IsReduction (gapBelow (logSegments kind width log)) (length (logSegments kind width log)) cuts
+      ↔ Merges (gap (segmentAt (logSegments kind width log))) (length (logSegments kind width log)) cuts
   -- no whole number that the kind allows has a smaller squared error than a block's row value: every one but for kind 3, and for
   -- that those that no value of the block is above
   pub least : (kind : ℕ) (b : List (Span ℕ)) (z : ℤ)
@@ -189,10 +194,11 @@ pub record Demand2 : Type 0 where
       → ((s : Span ℕ) → List·Memᴰ s b → (lo ≤ s .value) × (s .value ≤ hi)) → (lo ≤ rowValue kind b) × (rowValue kind b ≤ hi)
   pub greatest : (b : List (Span ℕ)) (s : Span ℕ) → List·Memᴰ s b → s .value ≤ rowValue greatestKind b
   pub reduction : (q : Query) (log : List ℕ) (room : ℕ) (counts : Counts) → queryOutcome q log room ≡ accepted counts
-      → (cuts : List ℕ) × Cut (q .kind) (logSegments (q .kind) log) (answerOf q log) cuts
-      × Reduces (q .kind) (q .bound) (logSegments (q .kind) log) cuts × (countsOf (answerOf q log) ≡ counts)
-  -- the empty log gives 0 rows and error 0, for every kind and every bound that passes question 3
+      → (cuts : List ℕ) × Cut (q .kind) (querySegments q log) (answerOf q log) cuts
+      × Reduces (q .kind) (q .bound) (querySegments q log) cuts × (countsOf (answerOf q log) ≡ counts)
+  -- the empty log gives 0 rows and error 0, for every kind, every bound that passes question 3 and every width that passes 25
   pub emptyLog : (q : Query) (room : ℕ) → slotLength ≤ room → kindKnown (q .kind) ≡ true → boundKnown (q .bound) ≡ true
+      → widthKnown (q .width) ≡ true
       → (answerOf q [] ≡ record { rows = []; error = 0; weighed = 0 })
       × (queryOutcome q [] room ≡ accepted (record { rows = 0; error = 0; weighed = 0 }))
   pub written : (q : Query) (log slot : List ℕ) (counts : Counts) → queryOutcome q log (length slot) ≡ accepted counts
@@ -202,8 +208,8 @@ pub record Demand2 : Type 0 where
   -- slots that were written before still read: of logs with twins too, with the lower number at a half and, whatever the kind, by
   -- the rule of any kind, as those of kind 3 held nearest whole numbers at first
   pub stillRead : (rule kind : ℕ) (log cuts rest : List ℕ) (a : Reduced) → kindKnown kind ≡ true
-      → AllPass (fileQuestions log) → LowerCut rule (logSegments kind log) a cuts
-      → IsReduction (gapBelow (logSegments kind log)) (length (logSegments kind log)) cuts → length cuts ≤ mostRows
+      → AllPass (fileQuestions log) → LowerCut rule (logSegments kind 1 log) a cuts
+      → IsReduction (gapBelow (logSegments kind 1 log)) (length (logSegments kind 1 log)) cuts → length cuts ≤ mostRows
       → Reads (slotBytes byBound kind (a .error) (a .rows) ++ rest) byBound kind (a .error) (a .rows)
   pub layout : (slot : List ℕ) (header : Header) → Bytes slot → readOutcome slot ≡ accepted header
       → take slotLength slot ≡ slotBytes (header .mark) (header .kind) (header .error) (readRows slot)
@@ -212,7 +218,7 @@ pub record Demand2 : Type 0 where
       → (rows : List (Span ℕ)) → SpanAggregation q log rows ↔ (rows ≡ windowRows q log)
   -- windows of one frame give the frames' own values
   pub frameByFrame : (kind start : ℕ) (log : List ℕ) (g f : ℕ) → start ≤ f
-      → valueIn (windowRows (beatQuery kind 1 start) log) g f ≡ value kind (records log) g f
+      → valueIn (windowRows (beatQuery kind 1 start) log) g f ≡ value kind 1 (records log) g f
 
 -- Twin records: no log that is accepted holds a record twice, and what is written of a log on file.
 
@@ -277,10 +283,12 @@ pub record AnyOrder : Type 0 where
   -- the records of a log that passes, nine bytes each, put one after the other by any order of their indices, are such another log
   pub anyShuffle : (log indices : List ℕ) → AllPass (logQuestions log)
       → List·Permᴰ (listFrom 0 (recordCount log) (λ i. i)) indices → Shuffled log (joined (recordPart log) indices)
-  pub segments : (kind : ℕ) (log other : List ℕ) → Shuffled log other → logSegments kind log ≡ logSegments kind other
+  pub segments : (kind width : ℕ) (log other : List ℕ) → Shuffled log other
+      → logSegments kind width log ≡ logSegments kind width other
   -- every query in order itself, by a bound or by windows, with slots long enough
   pub query : (q : RuledQuery) (log other slot otherSlot : List ℕ) → Shuffled log other
-      → kindKnown (q .kind) ≡ true → (ruleQuestion q) .passed ≡ true → slotLength ≤ length slot → slotLength ≤ length otherSlot
+      → kindKnown (q .kind) ≡ true → (ruleQuestion q) .passed ≡ true → AllPass (widthQuestions q)
+      → slotLength ≤ length slot → slotLength ≤ length otherSlot
       → SameAnswer (ruledOutcome q log (length slot)) (ruledSlot q log slot)
       (ruledOutcome q other (length otherSlot)) (ruledSlot q other otherSlot)
 
@@ -322,15 +330,15 @@ pub record HalvesUp : Type 0 where
   pub sameOutcome : (q : Query) (log : List ℕ) (room : ℕ) → queryOutcome q log room ≡ lowerOutcome q log room
   -- the same cuts, and so rows of the same frames, none of which has fallen, or risen by more than 1 or but at a half
   pub sameCuts : (q : Query) (log : List ℕ) (room : ℕ) (counts : Counts) → queryOutcome q log room ≡ accepted counts
-      → (cuts : List ℕ) × Cut (q .kind) (logSegments (q .kind) log) (answerOf q log) cuts
-      × LowerCut (q .kind) (logSegments (q .kind) log) (lowerAnswer q log) cuts
-      × AllRisen (blocksOf (logSegments (q .kind) log) cuts) ((answerOf q log) .rows) ((lowerAnswer q log) .rows)
+      → (cuts : List ℕ) × Cut (q .kind) (querySegments q log) (answerOf q log) cuts
+      × LowerCut (q .kind) (querySegments q log) (lowerAnswer q log) cuts
+      × AllRisen (blocksOf (querySegments q log) cuts) ((answerOf q log) .rows) ((lowerAnswer q log) .rows)
 
 -- Demand 3.
 
--- the lists of rows that fit a log, by the values of a kind
-abbrev pub listsFor : ℕ → List ℕ → Choices (List (Span ℤ))
-listsFor kind log = rowLists kind (value kind (records log))
+-- the lists of rows that fit a log, by the values of a kind and a width
+abbrev pub listsFor : ℕ → ℕ → List ℕ → Choices (List (Span ℤ))
+listsFor kind width log = rowLists kind (value kind width (records log))
 
 -- the slot is read to rows and an error that are the paper's answer to the query, and best
 pub record BestSlot (q : Query) (log slot : List ℕ) : Type 0 where
@@ -339,17 +347,17 @@ pub record BestSlot (q : Query) (log slot : List ℕ) : Type 0 where
   pub reads : Reads slot byBound (q .kind) error rows
   pub answerError : error ≡ (answerOf q log) .error
   pub answerRows : rows ≡ (answerOf q log) .rows
-  pub best : BestRows (listsFor (q .kind) log) (q .bound) error (map whole rows)
+  pub best : BestRows (listsFor (q .kind) (q .width) log) (q .bound) error (map whole rows)
 
 -- rows of kind 3 never fall short of a log: for every covered frame they have a number, which is at least the frame's value
 abbrev pub NeverShort : Query → List ℕ → List (Span ℕ) → Type 0
 NeverShort q log rows =
-    q .kind ≡ greatestKind → (g f v : ℕ) → value (q .kind) (records log) g f ≡ some v
+    q .kind ≡ greatestKind → (g f v : ℕ) → value (q .kind) (q .width) (records log) g f ≡ some v
     → (r : ℕ) × (valueIn rows g f ≡ some r) × (v ≤ r)
 
 -- 'too few rows' is said exactly where no rows do
 abbrev pub SaysTooFew : Query → List ℕ → Outcome Counts → Type 0
-SaysTooFew q log says = (says ≡ refused 10 0) ↔ NoRows (listsFor (q .kind) log) (q .bound)
+SaysTooFew q log says = (says ≡ refused 10 0) ↔ NoRows (listsFor (q .kind) (q .width) log) (q .bound)
 
 pub record Demand3 : Type 0 where
   pub best : (q : Query) (log slot : List ℕ) (counts : Counts) → queryOutcome q log (length slot) ≡ accepted counts
@@ -363,53 +371,92 @@ pub record Demand3 : Type 0 where
       → (rows : List (Span ℤ)) → FitsFor kind val rows ↔ (rows ≡ [])
   -- there is exactly one least squared error among the fitting lists with the fewest rows, so that every list is within the
   -- share or exceeds it
-  pub oneLeast : (kind : ℕ) (log : List ℕ)
-      → (L : ℕ) × LeastOfFewest (listsFor kind log) L × ((M : ℕ) → LeastOfFewest (listsFor kind log) M → M ≡ L)
+  pub oneLeast : (kind width : ℕ) (log : List ℕ)
+      → (L : ℕ) × LeastOfFewest (listsFor kind width log) L × ((M : ℕ) → LeastOfFewest (listsFor kind width log) M → M ≡ L)
 
 -- A slot against its log.
 
--- the log passes its questions, the slot is read as one by a bound, and its rows are a list that fits the log for its kind, with
--- its error as their squared error
-pub record Agrees (log slot : List ℕ) : Type 0 where
+-- the width is known, the log passes its questions, the slot is read as one by a bound, and its rows are a list that fits the log for
+-- its kind and the width, with its error as their squared error
+pub record Agrees (width : ℕ) (log slot : List ℕ) : Type 0 where
   pub kind : ℕ
   pub error : ℕ
   pub rows : List (Span ℕ)
+  pub known : widthKnown width ≡ true
   pub logPasses : AllPass (logQuestions log)
   pub reads : Reads slot byBound kind error rows
-  pub fits : (listsFor kind log) .fits (map whole rows)
-  pub hasError : (listsFor kind log) .error (map whole rows) ≡ error
+  pub fits : (listsFor kind width log) .fits (map whole rows)
+  pub hasError : (listsFor kind width log) .error (map whole rows) ≡ error
 
--- the slot is no better than the tool's own: a query of its kind for as many rows as it has is accepted, with no more rows and no
--- greater an error
-pub record NoBetter (log slot : List ℕ) (room : ℕ) : Type 0 where
+-- the slot is no better than the tool's own: a query of its kind and of the width, for as many rows as it has, is accepted, with no
+-- more rows and no greater an error
+pub record NoBetter (width : ℕ) (log slot : List ℕ) (room : ℕ) : Type 0 where
   pub kind : ℕ
   pub error : ℕ
   pub rows : List (Span ℕ)
   pub reads : Reads slot byBound kind error rows
   pub own : Counts
-  pub answers : queryOutcome (record { kind = kind; bound = bound.Rows (length rows) }) log room ≡ accepted own
+  pub answers : queryOutcome (queryBy kind (bound.Rows (length rows)) width) log room ≡ accepted own
   pub asManyRows : own .rows ≤ length rows
   pub asGreatAnError : own .error ≤ error
 
 pub record SlotAgainstLog : Type 0 where
   -- a slot is accepted exactly if it agrees with its log
-  pub exactly : (log slot : List ℕ) → Bytes slot → (checkOutcome log slot ≡ accepted tt) ↔ Agrees log slot
+  pub exactly : (width : ℕ) (log slot : List ℕ) → Bytes slot
+      → (checkOutcome width log slot ≡ accepted tt) ↔ Agrees width log slot
   -- whatever rows fit, cut as they may be, pass in a slot with their squared error
-  pub whateverFits : (log rest : List ℕ) (kind error : ℕ) (rows : List (Span ℕ)) → AllPass (logQuestions log)
-      → Storable byBound kind error rows → (listsFor kind log) .fits (map whole rows)
-      → (listsFor kind log) .error (map whole rows) ≡ error
-      → checkOutcome log (slotBytes byBound kind error rows ++ rest) ≡ accepted tt
-  -- so does every slot that the tool writes by a bound, with the log that it was written for
+  pub whateverFits : (width : ℕ) (log rest : List ℕ) (kind error : ℕ) (rows : List (Span ℕ)) → widthKnown width ≡ true
+      → AllPass (logQuestions log) → Storable byBound kind error rows → (listsFor kind width log) .fits (map whole rows)
+      → (listsFor kind width log) .error (map whole rows) ≡ error
+      → checkOutcome width log (slotBytes byBound kind error rows ++ rest) ≡ accepted tt
+  -- so does every slot that the tool writes by a bound, with the log that it was written for and the query's width
   pub written : (q : Query) (log slot : List ℕ) (counts : Counts) → queryOutcome q log (length slot) ≡ accepted counts
-      → checkOutcome log (querySlot q log slot) ≡ accepted tt
-  -- no slot that passes is better than the tool's own
-  pub noBetter : (log slot : List ℕ) → Bytes slot → checkOutcome log slot ≡ accepted tt → (room : ℕ) → slotLength ≤ room
-      → NoBetter log slot room
-  -- a slot by windows is refused as 11, once the log has passed
-  pub notByWindows : (log slot : List ℕ) → slotLength ≤ length slot → AllPass (logQuestions log) → slotMark slot ≡ byWindows
-      → checkOutcome log slot ≡ refused 11 0
+      → checkOutcome (q .width) log (querySlot q log slot) ≡ accepted tt
+  -- no slot that passes is better than the tool's own of the same width
+  pub noBetter : (width : ℕ) (log slot : List ℕ) → Bytes slot → checkOutcome width log slot ≡ accepted tt
+      → (room : ℕ) → slotLength ≤ room → NoBetter width log slot room
+  -- a slot by windows is refused as 11, once width and log have passed
+  pub notByWindows : (width : ℕ) (log slot : List ℕ) → slotLength ≤ length slot → widthKnown width ≡ true
+      → AllPass (logQuestions log) → slotMark slot ≡ byWindows → checkOutcome width log slot ≡ refused 11 0
   -- any order of the log gives the same answer
-  pub anyOrder : (log other slot : List ℕ) → Shuffled log other → checkOutcome log slot ≡ checkOutcome other slot
+  pub anyOrder : (width : ℕ) (log other slot : List ℕ) → Shuffled log other
+      → checkOutcome width log slot ≡ checkOutcome width other slot
+
+-- A memory.
+
+-- the record is of group g and contains at least one of the last `width` frames up to frame f, itself included
+abbrev pub Remembered : Span ℕ → ℕ → ℕ → ℕ → Type 0
+Remembered r width g f =
+    (r .group ≡ g) × ((e : ℕ) × (r .first ≤ e) × (e ≤ r .last) × (e ≤ f) × (f < e + width))
+
+-- a query by a rule with another width
+abbrev pub withWidth : ℕ → RuledQuery → RuledQuery
+withWidth width q = record { kind = q .kind; rule = q .rule; width = width; firsts = q .firsts; lasts = q .lasts }
+
+pub record Memory : Type 0 where
+  -- the loads of a frame's value are those of the remembered records
+  pub remembered : (r : Span ℕ) (width g f : ℕ) → r .first ≤ r .last → 1 ≤ width
+      → (meets r g (f - (width - 1)) f ≡ true) ↔ Remembered r width g f
+  -- a frame is covered exactly if there is such a record
+  pub covered : (kind width : ℕ) (log : List ℕ) → 1 ≤ width → AllPass (fileQuestions log)
+      → (g f : ℕ) → g < groupCount → f < frameCount
+      → ((v : ℕ) × (value kind width (records log) g f ≡ some v))
+      ↔ ((r : Span ℕ) × List·Memᴰ r (records log) × Remembered r width g f)
+  -- frames past 65,535 don't exist
+  pub noFrame : (kind width : ℕ) (rs : List (Span ℕ)) (g f : ℕ) → frameCount ≤ f → value kind width rs g f ≡ none
+  -- width 1 gives what the tool gave before: the same values, and so the same of every call
+  pub asBefore : (kind : ℕ) (rs : List (Span ℕ)) → value kind 1 rs ≡ plainValue kind rs
+  pub segmentsAsBefore : (kind : ℕ) (log : List ℕ) (list : List Segment)
+      → (segmentsOutcome kind 1 log (length list) ≡ plainSegmentsOutcome kind log (length list))
+      × (filledList kind 1 log list ≡ plainList kind log list)
+  pub queryAsBefore : (kind : ℕ) (bound : Bound) (log slot : List ℕ)
+      → (queryOutcome (queryBy kind bound 1) log (length slot) ≡ plainOutcome kind bound log (length slot))
+      × (querySlot (queryBy kind bound 1) log slot ≡ plainSlot kind bound log slot)
+  pub checkAsBefore : (log slot : List ℕ) → checkOutcome 1 log slot ≡ plainCheck log slot
+  -- a query by windows reads no width: whichever it has, the answer and the slot are the same
+  pub windows : (q : RuledQuery) (width : ℕ) (log slot : List ℕ) → boundIn (q .rule) ≡ none
+      → (ruledOutcome (withWidth width q) log (length slot) ≡ ruledOutcome q log (length slot))
+      × (ruledSlot (withWidth width q) log slot ≡ ruledSlot q log slot)
 
 -- What a call promises beyond the equations for its answer and its slot.
 
@@ -425,26 +472,27 @@ ForAnyOrder log saysOf leaves says after =
     (other : List ℕ) → Shuffled log other → (says ≡ saysOf other) × (after ≡ leaves other)
 
 -- a segment call that answers so and leaves this list: the same for any order of the records
-pub record SegmentsPromise (kind : ℕ) (log : List ℕ) (list : List Segment) (says : Outcome ℕ) (after : List Segment) : Type 0 where
-  pub anyOrder : ForAnyOrder log (λ other. segmentsOutcome kind other (length list)) (λ other. filledList kind other list) says after
+pub record SegmentsPromise (kind width : ℕ) (log : List ℕ) (list : List Segment) (says : Outcome ℕ) (after : List Segment) : Type 0 where
+  pub anyOrder : ForAnyOrder log (λ other. segmentsOutcome kind width other (length list)) (λ other. filledList kind width other list)
+      says after
 
 -- a query that answers so and leaves this slot: its number of cuts weighed; best rows where it is accepted, and for kind 3 none
 -- that falls short; 'too few rows' where no rows do, and there alone; the same for any order of the records; and a slot that passes
--- the check with the log
+-- the check with the log and the query's width
 pub record QueryPromise (q : Query) (log slot : List ℕ) (says : Outcome Counts) (after : List ℕ) : Type 0 where
   pub weighed : cutsWeighed says ≡ queryWeighed q log (length slot)
   pub best : (counts : Counts) → says ≡ accepted counts → BestSlot q log after
   pub neverShort : (counts : Counts) → says ≡ accepted counts → NeverShort q log (readRows after)
   pub tooFew : slotLength ≤ length slot → AllPass (orderQuestions q log) → SaysTooFew q log says
   pub anyOrder : ForAnyOrder log (λ other. queryOutcome q other (length slot)) (λ other. querySlot q other slot) says after
-  pub passes : (counts : Counts) → says ≡ accepted counts → checkOutcome log after ≡ accepted tt
+  pub passes : (counts : Counts) → says ≡ accepted counts → checkOutcome (q .width) log after ≡ accepted tt
 
 -- a check of a slot that answers so: it is accepted exactly if the slot agrees with its log, and then the slot is no better than the
--- tool's own; the same for any order of the records
-pub record CheckPromise (log slot : List ℕ) (says : Outcome (Unit {0})) : Type 0 where
-  pub exactly : (says ≡ accepted tt) ↔ Agrees log slot
-  pub noBetter : says ≡ accepted tt → (room : ℕ) → slotLength ≤ room → NoBetter log slot room
-  pub anyOrder : (other : List ℕ) → Shuffled log other → says ≡ checkOutcome other slot
+-- tool's own of the same width; the same for any order of the records
+pub record CheckPromise (width : ℕ) (log slot : List ℕ) (says : Outcome (Unit {0})) : Type 0 where
+  pub exactly : (says ≡ accepted tt) ↔ Agrees width log slot
+  pub noBetter : says ≡ accepted tt → (room : ℕ) → slotLength ≤ room → NoBetter width log slot room
+  pub anyOrder : (other : List ℕ) → Shuffled log other → says ≡ checkOutcome width other slot
 
 -- the slot of a query by windows is read to the span aggregation of the log, with error 0, and no cut was weighed
 pub record SpanSlot (q : RuledQuery) (log slot : List ℕ) (counts : Counts) : Type 0 where
@@ -471,9 +519,8 @@ pub record RuledPromise (q : RuledQuery) (log slot : List ℕ) (says : Outcome C
   pub anyOrder : ForAnyOrder log (λ other. ruledOutcome q other (length slot)) (λ other. ruledSlot q other slot) says after
 
 -- the same of a query by letter, for the bound that the letter names; the same for any order of the records
-pub record LetterPromise (kind letter x : ℕ) (log slot : List ℕ) (says : Outcome Counts) (after : List ℕ) : Type 0 where
-  pub weighed : cutsWeighed says ≡ letterWeighed kind letter x log (length slot)
-  pub named : (bound : Bound) → boundOf letter x ≡ some bound
-      → QueryPromise (record { kind = kind; bound = bound }) log slot says after
-  pub anyOrder : ForAnyOrder log (λ other. letterOutcome kind letter x other (length slot)) (λ other. letterSlot kind letter x other slot)
-      says after
+pub record LetterPromise (kind letter x width : ℕ) (log slot : List ℕ) (says : Outcome Counts) (after : List ℕ) : Type 0 where
+  pub weighed : cutsWeighed says ≡ letterWeighed kind letter x width log (length slot)
+  pub named : (bound : Bound) → boundOf letter x ≡ some bound → QueryPromise (queryBy kind bound width) log slot says after
+  pub anyOrder : ForAnyOrder log (λ other. letterOutcome kind letter x width other (length slot))
+      (λ other. letterSlot kind letter x width other slot) says after

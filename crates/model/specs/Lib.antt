@@ -16,4 +16,5 @@ pub mod Arrays
 pub mod Guarantee
 pub mod Fitting
 pub mod Check
+pub mod NoMemory
 pub mod Demands

@@ -1,5 +1,5 @@
 -- From bytes to records, and from records to the values of frames.
-use Prim.Native.Nat.{ℕ, zero, suc, _+_, _*_, _/_, min, max}
+use Prim.Native.Nat.{ℕ, zero, suc, _+_, _-_, _*_, _/_, min, max}
 use mathlib.Core.Bool.{Bool, _&&_, not, cond}
 use mathlib.Core.List.{List, [], _∷_, _++_, foldr}
 use mathlib.Core.Option.{Option, none, some}
@@ -79,6 +79,9 @@ unfoldable pub aggregated : ℕ → List ℕ → Option ℕ
 aggregated kind [] = none
 aggregated kind (x ∷ xs) = some (aggregate kind x xs)
 
--- the value of frame f of group g: none where the frame is not covered, and none where there is no such group or frame
-unfoldable pub value : ℕ → List (Span ℕ) → ℕ → ℕ → Option ℕ
-value kind rs g f = cond (ltb g groupCount && ltb f frameCount) (aggregated kind (meeting rs g f f)) none
+-- the value of frame f of group g with a memory of `width` frames: the aggregate over the group's records that contain at least one
+-- of the last `width` frames, itself included, of which there is none before frame 0. None where there is no such record, so that
+-- the frame is not covered, and none where there is no such group or frame.
+unfoldable pub value : ℕ → ℕ → List (Span ℕ) → ℕ → ℕ → Option ℕ
+value kind width rs g f =
+    cond (ltb g groupCount && ltb f frameCount) (aggregated kind (meeting rs g (f - (width - 1)) f)) none

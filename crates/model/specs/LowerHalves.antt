@@ -14,7 +14,7 @@ use Rattle.model.specs.Blocks.{segmentAt, block, totals, errorWith}
 use Rattle.model.specs.Split.{least, weighed, cutsOf, rowsOf, chosen, rowsTried, Reduced, gapBelow, runs}
 use Rattle.model.specs.Slot.{slotLength}
 use Rattle.model.specs.Questions.{Outcome, ask, askRoom, outcome, orderQuestions}
-use Rattle.model.specs.Calls.{Counts, countsOf, logSegments}
+use Rattle.model.specs.Calls.{Counts, countsOf, querySegments}
 use Rattle.model.specs.declared.Bound.{Bound}
 use Rattle.model.specs.declared.Query.{Query}
 
@@ -55,11 +55,11 @@ lowerReduced kind bound segs =
 -- the answer to a query and what the call said, as in `Questions` and `Calls`
 unfoldable pub lowerAnswer : Query → List ℕ → Reduced
 lowerAnswer q log =
-    Option·getD (lowerReduced (q .kind) (q .bound) (logSegments (q .kind) log)) (record { rows = []; error = 0; weighed = 0 })
+    Option·getD (lowerReduced (q .kind) (q .bound) (querySegments q log)) (record { rows = []; error = 0; weighed = 0 })
 
 unfoldable pub lowerOutcome : Query → List ℕ → ℕ → Outcome Counts
 lowerOutcome q log room =
     outcome
     (askRoom slotLength room
-    ∷ (orderQuestions q log ++ (ask 10 0 (isSome (lowerCountFor (q .kind) (q .bound) (logSegments (q .kind) log))) ∷ [])))
+    ∷ (orderQuestions q log ++ (ask 10 0 (isSome (lowerCountFor (q .kind) (q .bound) (querySegments q log))) ∷ [])))
     (countsOf (lowerAnswer q log))

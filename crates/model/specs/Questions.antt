@@ -63,6 +63,13 @@ unfoldable pub boundKnown : Bound → Bool
 boundKnown (Rows c) = leb c mostRows
 boundKnown (Share p) = leb p 1000
 
+-- the widths of a memory are 1 to 4,096 frames
+abbrev pub mostWidth : ℕ
+mostWidth = 4096
+
+unfoldable pub widthKnown : ℕ → Bool
+widthKnown width = leb 1 width && leb width mostWidth
+
 unfoldable pub groupKnown : ℕ → Bool
 groupKnown group = leb group 7
 
@@ -102,13 +109,18 @@ logQuestions log = withRecords (λ i. recordQuestions log i ++ twinQuestions log
 unfoldable pub withoutTwinsQuestions : List ℕ → ℕ → List Question
 withoutTwinsQuestions log room = askRoom (length log) room ∷ fileQuestions log
 
+-- 25: is the width known?
+unfoldable pub askWidth : ℕ → Question
+askWidth width = ask 25 0 (widthKnown width)
+
 -- those that a query and a log are asked ahead of 10
 unfoldable pub orderQuestions : Query → List ℕ → List Question
-orderQuestions q log = ask 2 0 (kindKnown (q .kind)) ∷ ask 3 0 (boundKnown (q .bound)) ∷ logQuestions log
+orderQuestions q log =
+    ask 2 0 (kindKnown (q .kind)) ∷ ask 3 0 (boundKnown (q .bound)) ∷ askWidth (q .width) ∷ logQuestions log
 
 -- 10: do the segments of the log answer the bound?
 unfoldable pub enoughRows : Query → List ℕ → Bool
-enoughRows q log = isSome (countFor (q .kind) (q .bound) (segments (q .kind) (records log)))
+enoughRows q log = isSome (countFor (q .kind) (q .bound) (segments (q .kind) (q .width) (records log)))
 
 unfoldable pub queryQuestions : Query → List ℕ → ℕ → List Question
 queryQuestions q log room =
@@ -141,9 +153,17 @@ ruleQuestion q =
       | rule.Scenes count ↦ ask 19 0 (scenesKnown (q .firsts) (q .lasts) count)
     ]
 
+-- 25 of a rule that is a bound: windows read no width, and are not asked
+unfoldable pub widthQuestions : RuledQuery → List Question
+widthQuestions q = elim (boundIn (q .rule)) [ none ↦ [] | some bound ↦ askWidth (q .width) ∷ [] ]
+
+-- a query by a bound, from its parts
+abbrev pub queryBy : ℕ → Bound → ℕ → Query
+queryBy kind bound width = record { kind = kind; bound = bound; width = width }
+
 -- the query by a bound that a query by a rule is, where its rule is one
 abbrev pub withBound : RuledQuery → Bound → Query
-withBound q bound = record { kind = q .kind; bound = bound }
+withBound q bound = queryBy (q .kind) bound (q .width)
 
 -- the rows of a query by windows
 unfoldable pub windowRows : RuledQuery → List ℕ → List (Span ℕ)
@@ -159,7 +179,7 @@ rowsQuestion q log =
 
 -- those that a query by a rule and a log are asked ahead of 10 or 20, and all
 unfoldable pub ruledOrder : RuledQuery → List ℕ → List Question
-ruledOrder q log = ask 2 0 (kindKnown (q .kind)) ∷ ruleQuestion q ∷ logQuestions log
+ruledOrder q log = ask 2 0 (kindKnown (q .kind)) ∷ ruleQuestion q ∷ (widthQuestions q ++ logQuestions log)
 
 unfoldable pub ruledQuestions : RuledQuery → List ℕ → ℕ → List Question
 ruledQuestions q log room = askRoom slotLength room ∷ (ruledOrder q log ++ (rowsQuestion q log ∷ []))
@@ -168,8 +188,9 @@ ruledQuestions q log room = askRoom slotLength room ∷ (ruledOrder q log ++ (ro
 unfoldable pub mostSegments : ℕ
 mostSegments = 255
 
-unfoldable pub segmentsQuestions : ℕ → List ℕ → ℕ → List Question
-segmentsQuestions kind log room = askRoom mostSegments room ∷ ask 2 0 (kindKnown kind) ∷ logQuestions log
+unfoldable pub segmentsQuestions : ℕ → ℕ → List ℕ → ℕ → List Question
+segmentsQuestions kind width log room =
+    askRoom mostSegments room ∷ ask 2 0 (kindKnown kind) ∷ askWidth width ∷ logQuestions log
 
 unfoldable pub writeQuestions : Span ℕ → ℕ → List Question
 writeQuestions r room = askRoom recordLength room ∷ spanQuestions r 0

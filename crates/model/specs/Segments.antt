@@ -35,6 +35,6 @@ groupsFrom val frames g (suc count) = framesFrom val g 0 frames (groupsFrom val 
 unfoldable pub segmentsOf : {A : Type 0} → (A → A → Bool) → (ℕ → ℕ → Option A) → ℕ → ℕ → List (Span A)
 segmentsOf same val groups frames = foldr (fuse same) [] (groupsFrom val frames 0 groups)
 
--- the segments of a log's records
-unfoldable pub segments : ℕ → List (Span ℕ) → List (Span ℕ)
-segments kind rs = segmentsOf eqb (value kind rs) groupCount frameCount
+-- the segments of a log's records, by the values of a kind and a width
+unfoldable pub segments : ℕ → ℕ → List (Span ℕ) → List (Span ℕ)
+segments kind width rs = segmentsOf eqb (value kind width rs) groupCount frameCount

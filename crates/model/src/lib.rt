@@ -31,6 +31,9 @@ pub const MOST_SHARE: u16 = 1000;
 // The greatest value of a row.
 pub const MOST_VALUE: u32 = 128_000;
 
+// The greatest width of a memory, in frames.
+pub const MOST_WIDTH: u16 = 4096;
+
 // The bytes of a slot.
 pub const SLOT_LENGTH: usize = 768;
 
@@ -92,10 +95,12 @@ pub enum Bound {
     Share(u16),
 }
 
-// A query by a bound.
+// A query by a bound. The width is that of its memory: how many of the last frames, the frame itself included, a frame's value is
+// made of.
 pub struct Query {
     pub kind: u8,
     pub bound: Bound,
+    pub width: u16,
 }
 
 // What an answer's rows are made by: a bound, as above, or windows, which are every `length` frames from frame `start` on, or so
@@ -107,10 +112,12 @@ pub enum Rule {
     Scenes(usize),
 }
 
-// A query by any rule. The first and last frames of its scenes stand beside the rule, and are read for scenes alone.
+// A query by any rule. The width of its memory is read for bounds alone. The first and last frames of its scenes stand beside the
+// rule, and are read for scenes alone.
 pub struct RuledQuery {
     pub kind: u8,
     pub rule: Rule,
+    pub width: u16,
     pub firsts: [u16; MOST_SCENES],
     pub lasts: [u16; MOST_SCENES],
 }

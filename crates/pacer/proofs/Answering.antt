@@ -8,7 +8,7 @@ use lib.ListN.{length, drop, replicate}
 use borrow.Author.Tests.{leb-true}
 use Rattle.model.specs.Split.{Reduced}
 use Rattle.model.specs.Slot.{slotLength, byBound, slotBytes}
-use Rattle.model.specs.Questions.{Question, Outcome, refused, accepted, ask, askRoom, outcome, lent, queryQuestions, ruledQuestions}
+use Rattle.model.specs.Questions.{Question, Outcome, refused, accepted, ask, askRoom, outcome, lent, queryQuestions, ruledQuestions, queryBy}
 use Rattle.model.specs.Calls.{Counts, countsOf, queryCase, answerOf, queryOutcome, querySlot, ruledAnswer, ruledMark, ruledOutcome, ruledSlot}
 use Rattle.model.specs.Calls.{boundOf, letterQuestions, letterOutcome, letterSlot, readCase, readOutcome, readRows}
 use Rattle.model.specs.Arrays.{rowsIn, rowArray}
@@ -76,18 +76,18 @@ stored-by-rule q log slot p says bytes = stored _ (ruledMark q) (q .kind) (ruled
 
 -- ---- a letter for the bound
 
-module _ (kind letter x : ℕ) (log slot : List ℕ) where
+module _ (kind letter x width : ℕ) (log slot : List ℕ) where
   -- what is said of a query whose bound the letter names
   pub by-letter : (bound : Bound) → boundOf letter x ≡ some bound
-      → (queryOutcome (record { kind = kind; bound = bound }) log (length slot) ≡ letterOutcome kind letter x log (length slot))
-      × (querySlot (record { kind = kind; bound = bound }) log slot ≡ letterSlot kind letter x log slot)
+      → (queryOutcome (queryBy kind bound width) log (length slot) ≡ letterOutcome kind letter x width log (length slot))
+      × (querySlot (queryBy kind bound width) log slot ≡ letterSlot kind letter x width log slot)
   unfolding letterOutcome letterSlot
   by-letter bound h = (rw (h, letterOutcome), rw (h, letterSlot))
 
   -- and of another letter
   pub no-letter : boundOf letter x ≡ none
-      → (outcome (letterQuestions kind (length slot)) noCounts ≡ letterOutcome kind letter x log (length slot))
-      × (slot ≡ letterSlot kind letter x log slot)
+      → (outcome (letterQuestions kind (length slot)) noCounts ≡ letterOutcome kind letter x width log (length slot))
+      × (slot ≡ letterSlot kind letter x width log slot)
   unfolding letterOutcome letterSlot noCounts
   no-letter h = (rw (h, letterOutcome), rw (h, letterSlot))
 

@@ -49,7 +49,7 @@ module _ (reading : Reading) where
       let error : b .error ≡ 40087 = ap (λ (h : Header). h .error) same in
       let count : b .count ≡ 3 = ap (λ (h : Header). h .rows) same in
       one-row-per-run
-      (subst (λ rs. BestOfLimit (rowLists 0 (value 0 rs)) 4 40087 (map whole runs-G)) decoded
+      (subst (λ rs. BestOfLimit (rowLists 0 (value 0 1 rs)) 4 40087 (map whole runs-G)) decoded
       (rw (error, count, rows) at (b .best)))
 
   -- of kind 3, a row one below what a frame needs (neverShort)

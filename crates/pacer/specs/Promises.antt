@@ -22,7 +22,7 @@ pub record BestReading (q : Query) (log : List ℕ) (reading : Reading) : Type 0
   pub count : ℕ
   pub header : readCase (reading .answer)
       ≡ accepted (record { mark = byBound; kind = q .kind; error = error; rows = count })
-  pub best : BestRows (listsFor (q .kind) log) (q .bound) error (map whole (rowsIn (reading .rows) count))
+  pub best : BestRows (listsFor (q .kind) (q .width) log) (q .bound) error (map whole (rowsIn (reading .rows) count))
   pub neverShort : NeverShort q log (rowsIn (reading .rows) count)
 
 -- what would be given by a query that is always refused

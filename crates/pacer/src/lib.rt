@@ -71,9 +71,10 @@ pub fn query(query: RuledQuery, log: &[u8], slot: &mut [u8]) -> QueryAnswer
 {
     let kind = query.kind;
     let rule = query.rule;
+    let width = query.width;
     if is_bound(rule) {
         let bound = bound_of(rule);
-        return query_by_bound(Query { kind, bound }, log, slot);
+        return query_by_bound(Query { kind, bound, width }, log, slot);
     }
     query_by_windows(query, log, slot)
 }
@@ -151,16 +152,24 @@ fn store(prepared: Prepared, slot: &mut [u8]) -> QueryAnswer
 }
 
 // Answers a query whose bound is a letter and a number: 52 and a row limit, or 45 and a share.
-pub fn query_by_letter(kind: u8, letter: u8, bound: u16, log: &[u8], slot: &mut [u8]) -> QueryAnswer
-    ensures says { λ r. ⌜ queryCase r ≡ letterOutcome kind letter bound (now (log .entry)) (length (now (slot .entry))) ⌝ }
-    ensures holds { λ _. ⌜ now (slot .exit) ≡ letterSlot kind letter bound (now (log .entry)) (now (slot .entry)) ⌝ }
-    ensures promise { λ r. ⌜ LetterPromise kind letter bound (now (log .entry)) (now (slot .entry)) (queryCase r) (now (slot .exit)) ⌝ }
+pub fn query_by_letter(
+    kind: u8,
+    letter: u8,
+    bound: u16,
+    width: u16,
+    log: &[u8],
+    slot: &mut [u8],
+) -> QueryAnswer
+    ensures says { λ r. ⌜ queryCase r ≡ letterOutcome kind letter bound width (now (log .entry)) (length (now (slot .entry))) ⌝ }
+    ensures holds { λ _. ⌜ now (slot .exit) ≡ letterSlot kind letter bound width (now (log .entry)) (now (slot .entry)) ⌝ }
+    ensures promise { λ r. ⌜ LetterPromise kind letter bound width (now (log .entry)) (now (slot .entry)) (queryCase r) (now (slot .exit)) ⌝ }
 {
     if letter == 0x52 {
         return query_by_bound(
             Query {
                 kind,
                 bound: Bound::Rows(bound),
+                width,
             },
             log,
             slot,
@@ -171,6 +180,7 @@ pub fn query_by_letter(kind: u8, letter: u8, bound: u16, log: &[u8], slot: &mut 
             Query {
                 kind,
                 bound: Bound::Share(bound),
+                width,
             },
             log,
             slot,

@@ -16,9 +16,9 @@ use Rattle.model.specs.Spans.{Span, nowhere}
 use Rattle.model.specs.Split.{Reduced, mostRows, countFor, reduced}
 use Rattle.model.specs.Windows.{boundIn}
 use Rattle.model.specs.Slot.{slotLength, byBound, byWindows}
-use Rattle.model.specs.Questions.{Question, refused, accepted, ask, boundKnown, outcome, enoughRows, orderQuestions, queryQuestions}
+use Rattle.model.specs.Questions.{Question, refused, accepted, ask, boundKnown, outcome, enoughRows, orderQuestions, queryQuestions, askWidth, widthQuestions}
 use Rattle.model.specs.Questions.{windowRows, ruleQuestion, rowsQuestion, ruledOrder, ruledQuestions}
-use Rattle.model.specs.Calls.{queryCase, logSegments, answerOf, countsOf, ruledAnswer, ruledMark, rowSpan, rowOfSpan}
+use Rattle.model.specs.Calls.{queryCase, logSegments, answerOf, countsOf, ruledAnswer, ruledMark, rowSpan, rowOfSpan, querySegments}
 use Rattle.model.specs.Arrays.{rowsIn, rowArray}
 use Rattle.model.specs.Demands.{AllPass}
 use Rattle.model.specs.declared.Bound.{Bound}
@@ -124,10 +124,10 @@ module _ (ahead : List Question) (last : Question) (mark kind : ℕ) (given : Re
       let says : outcome all (countsOf given) ≡ accepted (countsOf given) = outcome-behind ahead (last ∷ []) _ passed ∙ rw decides in
       rw (e, ← is d refl) (sym says, sym (all-lent all _ _ (outcome-accepted all _ _ says .0)))
 
--- by a bound 3 is asked ahead, and 10 last
+-- by a bound 3 and 25 are asked ahead, and 10 last
 module _ (q : Query) (log : List ℕ) (room : ℕ) where
   abbrev pub aheadOf10 : List Question
-  aheadOf10 = aheadOfRows (q .kind) (ask 3 0 (boundKnown (q .bound))) log room
+  aheadOf10 = aheadOfRows (q .kind) (ask 3 0 (boundKnown (q .bound)) ∷ askWidth (q .width) ∷ []) log room
 
   pub refused-bound : (refusal : Refusal) → outcome aheadOf10 (tt {0}) ≡ refused (refusal .question) (refusal .index)
       → Prepares (queryQuestions q log room) byBound (q .kind) (answerOf q log) (record { answer = Refused refusal; bytes = replicate slotLength 0 })
@@ -143,38 +143,44 @@ module _ (q : Query) (log : List ℕ) (room : ℕ) where
     unfolding orderQuestions aheadOfRows earlyQuestions
     bound-in-order = all-tail _ _ passed-bound
 
-    pub bound-laid-out : (p : Prepared) → p ≡ laidOut byBound 10 (q .kind) (reduced (q .kind) (q .bound) (logSegments (q .kind) log))
+    pub bound-laid-out : (p : Prepared) → p ≡ laidOut byBound 10 (q .kind) (reduced (q .kind) (q .bound) (querySegments q log))
         → Prepares (queryQuestions q log room) byBound (q .kind) (answerOf q log) p
     unfolding queryQuestions orderQuestions aheadOfRows earlyQuestions enoughRows logSegments answerOf
     bound-laid-out =
         decided aheadOf10 (ask 10 0 (enoughRows q log)) byBound (q .kind) (answerOf q log) passed-bound 10
-        (reduced (q .kind) (q .bound) (logSegments (q .kind) log))
-        (ap (ask 10 0) (reduced-some (q .kind) (q .bound) (logSegments (q .kind) log)))
+        (reduced (q .kind) (q .bound) (querySegments q log))
+        (ap (ask 10 0) (reduced-some (q .kind) (q .bound) (querySegments q log)))
         (λ d is. rw is)
 
 -- by windows 18 or 19, and 20
-module _ (q : RuledQuery) (log : List ℕ) (room : ℕ) where
+module _ (q : RuledQuery) (log : List ℕ) (room : ℕ) (windowed : boundIn (q .rule) ≡ none) where
   abbrev pub aheadOf20 : List Question
-  aheadOf20 = aheadOfRows (q .kind) (ruleQuestion q) log room
+  aheadOf20 = aheadOfRows (q .kind) (ruleQuestion q ∷ []) log room
+
+  -- windows read no width, so that these are all
+  all-by-windows : ruledQuestions q log room ≡ aheadOf20 ++ (rowsQuestion q log ∷ [])
+  unfolding ruledQuestions ruledOrder widthQuestions aheadOfRows earlyQuestions
+  all-by-windows = rw (windowed, widthQuestions)
 
   pub refused-windows : (refusal : Refusal) → outcome aheadOf20 (tt {0}) ≡ refused (refusal .question) (refusal .index)
       → Prepares (ruledQuestions q log room) (ruledMark q) (q .kind) (ruledAnswer q log) (record { answer = Refused refusal; bytes = replicate slotLength 0 })
-  unfolding ruledQuestions ruledOrder aheadOfRows earlyQuestions
-  refused-windows = refused-early aheadOf20 (rowsQuestion q log) (ruledMark q) (q .kind) (ruledAnswer q log)
+  refused-windows refusal e =
+      rw all-by-windows (refused-early aheadOf20 (rowsQuestion q log) (ruledMark q) (q .kind) (ruledAnswer q log) refusal e)
 
   module _ (early : outcome aheadOf20 (tt {0}) ≡ accepted tt) where
     passed-windows : AllPass aheadOf20
     passed-windows = outcome-accepted _ (tt {0}) (tt {0}) early .0
 
     pub windows-in-order : AllPass (ruledOrder q log)
-    unfolding ruledOrder aheadOfRows earlyQuestions
-    windows-in-order = all-tail _ _ passed-windows
+    unfolding ruledOrder widthQuestions aheadOfRows earlyQuestions
+    windows-in-order = rw (windowed, widthQuestions) (all-tail _ _ passed-windows)
 
-    pub windows-laid-out : boundIn (q .rule) ≡ none → (p : Prepared) → p ≡ laidOut byWindows 20 (q .kind) (listed (windowRows q log))
+    pub windows-laid-out : (p : Prepared) → p ≡ laidOut byWindows 20 (q .kind) (listed (windowRows q log))
         → Prepares (ruledQuestions q log room) (ruledMark q) (q .kind) (ruledAnswer q log) p
-    unfolding ruledQuestions ruledOrder aheadOfRows earlyQuestions rowsQuestion ruledMark ruledAnswer
-    windows-laid-out windowed p e =
-        decided aheadOf20 (rowsQuestion q log) (ruledMark q) (q .kind) (ruledAnswer q log) passed-windows 20 (listed (windowRows q log))
+    unfolding rowsQuestion ruledMark ruledAnswer
+    windows-laid-out p e =
+        rw all-by-windows
+        (decided aheadOf20 (rowsQuestion q log) (ruledMark q) (q .kind) (ruledAnswer q log) passed-windows 20 (listed (windowRows q log))
         (rw (windowed, rowsQuestion) (ap (ask 20 0) (listed-some (windowRows q log))))
         (λ d is. rw (windowed, ruledAnswer) (listed-is (windowRows q log) d is)) p
-        (e ∙ rw (windowed, ruledMark))
+        (e ∙ rw (windowed, ruledMark)))

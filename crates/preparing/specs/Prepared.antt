@@ -14,12 +14,12 @@ use Rattle.model.specs.declared.QueryAnswer.the-variants.{Written, Refused}
 use Rattle.cuts.specs.declared.Reduction.{Reduction}
 use Rattle.preparing.specs.declared.Prepared.{Prepared}
 
--- 1, 2 and a question of the rule: those that need no look at the log
-unfoldable pub earlyQuestions : ℕ → Question → ℕ → List Question
-earlyQuestions kind rule room = askRoom slotLength room ∷ ask 2 0 (kindKnown kind) ∷ rule ∷ []
+-- 1, 2 and those of the rule: those that need no look at the log
+unfoldable pub earlyQuestions : ℕ → List Question → ℕ → List Question
+earlyQuestions kind rule room = askRoom slotLength room ∷ ask 2 0 (kindKnown kind) ∷ rule
 
 -- those ahead of 10 or 20
-unfoldable pub aheadOfRows : ℕ → Question → List ℕ → ℕ → List Question
+unfoldable pub aheadOfRows : ℕ → List Question → List ℕ → ℕ → List Question
 aheadOfRows kind rule log room = earlyQuestions kind rule room ++ logQuestions log
 
 -- the slot is written where the query is accepted

@@ -17,14 +17,14 @@ use model::SLOT_LENGTH;
 use rules::ask_bound;
 use rules::ask_windows;
 ghost use mathlib.Core.Path.{_≡_};
-ghost use mathlib.Core.List.{[], _∷_};
+ghost use mathlib.Core.List.{List};
 ghost use mathlib.Core.Option.{none};
 ghost use Prim.Native.Nat.{_≤_};
 ghost use Rattle.model.specs.Split.{reduced};
 ghost use Rattle.model.specs.Windows.{boundIn};
 ghost use Rattle.model.specs.Slot.{byBound, byWindows};
 ghost use Rattle.model.specs.Questions.{Question, outcome, orderQuestions, queryQuestions, windowRows, ruledOrder, ruledQuestions};
-ghost use Rattle.model.specs.Calls.{askedCase, queryCase, logSegments, answerOf, queryOutcome, ruledAnswer, ruledMark, ruledOutcome};
+ghost use Rattle.model.specs.Calls.{askedCase, queryCase, querySegments, answerOf, queryOutcome, ruledAnswer, ruledMark, ruledOutcome};
 ghost use Rattle.model.specs.Arrays.{rowsIn};
 ghost use Rattle.model.specs.Demands.{AllPass};
 ghost use Rattle.preparing.specs.Prepared.{earlyQuestions, aheadOfRows, writes, written, laidOut, listed, preparedSlot};
@@ -58,7 +58,7 @@ pub fn is_written(answer: QueryAnswer) -> bool
 
 // Questions 1 and 2, and behind them what was said of a question of the query's rule.
 fn ask_query(kind: u8, rule: Asked, room: usize) -> Asked
-    ensures { λ r. ⌜ ((question : Question) → askedCase rule ≡ outcome (question ∷ []) tt → askedCase r ≡ outcome (earlyQuestions kind question room) tt) ⌝ }
+    ensures { λ r. ⌜ ((questions : List Question) → askedCase rule ≡ outcome questions tt → askedCase r ≡ outcome (earlyQuestions kind questions room) tt) ⌝ }
 {
     if room < SLOT_LENGTH {
         return no(1, 0);
@@ -71,7 +71,7 @@ fn ask_query(kind: u8, rule: Asked, room: usize) -> Asked
 
 // These, and then the log's.
 fn ask(kind: u8, rule: Asked, log: &[u8], room: usize) -> Asked
-    ensures { λ r. ⌜ ((question : Question) → askedCase rule ≡ outcome (question ∷ []) tt → askedCase r ≡ outcome (aheadOfRows kind question (now (log .entry)) room) tt) ⌝ }
+    ensures { λ r. ⌜ ((questions : List Question) → askedCase rule ≡ outcome questions tt → askedCase r ≡ outcome (aheadOfRows kind questions (now (log .entry)) room) tt) ⌝ }
 {
     let asked = ask_query(kind, rule, room);
     match asked {
@@ -98,20 +98,16 @@ fn lay_out(mark: u8, kind: u8, reduction: Reduction, rows: [Row; 64]) -> Prepare
 // The reduction of a log's segments that a query asks for, laid out, and question 10 where there is none.
 fn reduce(query: Query, log: &[u8]) -> Prepared
     requires { ⌜ AllPass (orderQuestions query (now log)) ⌝ }
-    ensures { λ r. ⌜ r ≡ laidOut byBound 10 (query .kind) (reduced (query .kind) (query .bound) (logSegments (query .kind) (now (log .entry)))) ⌝ }
+    ensures { λ r. ⌜ r ≡ laidOut byBound 10 (query .kind) (reduced (query .kind) (query .bound) (querySegments query (now (log .entry)))) ⌝ }
 {
-    let records = log::decode(log);
     let mut groups = [0u8; 255];
     let mut firsts = [0u16; 255];
     let mut lasts = [0u16; 255];
     let mut values = [0u32; 255];
-    let n = segments::find(
-        &records.groups,
-        &records.firsts,
-        &records.lasts,
-        &records.loads,
-        records.count,
+    let n = segments::of_log(
+        log,
         query.kind,
+        query.width,
         &mut groups,
         &mut firsts,
         &mut lasts,
@@ -178,7 +174,7 @@ pub fn prepare_by_bound(query: Query, log: &[u8], room: usize) -> Prepared
     ensures { λ r. ⌜ r .bytes ≡ preparedSlot (queryQuestions query (now (log .entry)) room) byBound (query .kind) (answerOf query (now (log .entry))) ⌝ }
 {
     let bound = query.bound;
-    let rule = ask_bound(bound);
+    let rule = ask_bound(bound, query.width);
     let asked = ask(query.kind, rule, log, room);
     match asked {
         Asked::Passed => reduce(query, log),

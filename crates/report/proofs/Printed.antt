@@ -8,7 +8,7 @@ use borrow.Author.Tests.{leb-true}
 use lib.ListN.{length}
 use Rattle.model.specs.Split.{mostRows}
 use Rattle.model.specs.Slot.{slotLength, slotCount}
-use Rattle.model.specs.Questions.{Outcome, refused, accepted, ask, slotQuestions}
+use Rattle.model.specs.Questions.{Outcome, refused, accepted, ask, slotQuestions, queryBy}
 use Rattle.model.specs.Calls.{Counts, Header, answerOf, countsOf, queryOutcome, querySlot, boundOf, letterQuestions, letterOutcome, letterSlot, readOutcome, readRows}
 use Rattle.model.specs.Arrays.{rowsIn, rowArray}
 use Rattle.model.specs.declared.Bound.{Bound}
@@ -40,25 +40,25 @@ rows-read q log slot counts ok =
 
 module _ (kind letter x : ℕ) (log slot : List ℕ) (size : length slot ≡ slotLength) where
   -- a query by letter that is accepted has a letter that names a bound
-  named : (counts : Counts) → letterOutcome kind letter x log (length slot) ≡ accepted counts
+  named : (counts : Counts) → letterOutcome kind letter x 1 log (length slot) ≡ accepted counts
       → (counts .rows ≤ 64)
-      × (rowsIn (rowArray (readRows (letterSlot kind letter x log slot))) (counts .rows) ≡ letterRows kind letter x log)
+      × (rowsIn (rowArray (readRows (letterSlot kind letter x 1 log slot))) (counts .rows) ≡ letterRows kind letter x log)
   unfolding letterOutcome letterSlot letterRows letterQuestions ask
   named counts ok = by (boundOf letter x) refl
     where
       by : (o : Option Bound) → boundOf letter x ≡ o
           → (counts .rows ≤ 64)
-          × (rowsIn (rowArray (readRows (letterSlot kind letter x log slot))) (counts .rows) ≡ letterRows kind letter x log)
+          × (rowsIn (rowArray (readRows (letterSlot kind letter x 1 log slot))) (counts .rows) ≡ letterRows kind letter x log)
       by none h =
           let (all, same) = outcome-accepted (letterQuestions kind (length slot)) _ counts (rw (h, letterOutcome) at ok) in
           absurd (true≢false (sym (all-head _ _ (all-tail _ _ (all-tail _ _ all)))))
       by (some bound) h =
           rw (h, letterSlot, letterRows)
-          (rows-read (record { kind = kind; bound = bound }) log slot counts (rw (h, letterOutcome) at ok))
+          (rows-read (queryBy kind bound 1) log slot counts (rw (h, letterOutcome) at ok))
 
   -- the text of the answer with the rows that were read
-  pub printed : (says : Outcome Counts) (rows : List Row) → says ≡ letterOutcome kind letter x log (length slot)
-      → rows ≡ rowArray (readRows (letterSlot kind letter x log slot))
+  pub printed : (says : Outcome Counts) (rows : List Row) → says ≡ letterOutcome kind letter x 1 log (length slot)
+      → rows ≡ rowArray (readRows (letterSlot kind letter x 1 log slot))
       → (rowCount says ≤ 64) × (answerText says (rowsIn rows (rowCount says)) ≡ queryText kind letter x log)
   unfolding rowCount queryText answerText
   printed (refused n i) rows e is = (zero-le, rw (← size, ← e))

@@ -20,7 +20,7 @@ fn answer(kind: u8, letter: u8, bound: u16, log: &[u8], out: &mut [u8; 4096]) ->
     ensures { λ r. ⌜ (r ≤ length (now (out .exit))) × (take r (now (out .exit)) ≡ queryText kind letter bound (now (log .entry))) ⌝ }
 {
     let mut slot = no_slot();
-    let answer = pacer::query_by_letter(kind, letter, bound, log, &mut slot);
+    let answer = pacer::query_by_letter(kind, letter, bound, 1, log, &mut slot);
     let reading = pacer::read(&slot);
     let rows = reading.rows;
     text::put_answer(out, answer, rows)

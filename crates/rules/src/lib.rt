@@ -1,5 +1,6 @@
 // A query by a rule: it is put together, with a bound, every so many frames from a start frame on, or by scenes, and its rule is asked
 // its own question. A bound is asked 3, whether or not it came as a rule.
+use common::is_width;
 use common::no;
 use model::Asked;
 use model::Bound;
@@ -18,7 +19,7 @@ ghost use lib.ListN.{take};
 ghost use Rattle.model.specs.Common.{isSome};
 ghost use Rattle.model.specs.Spans.{frameCount};
 ghost use Rattle.model.specs.Windows.{boundIn};
-ghost use Rattle.model.specs.Questions.{ask, outcome, boundKnown, sceneKnown, scenesKnown, ruleQuestion};
+ghost use Rattle.model.specs.Questions.{ask, outcome, boundKnown, askWidth, sceneKnown, scenesKnown, ruleQuestion};
 ghost use Rattle.model.specs.Calls.{askedCase, noFrames, ruleOf, boundedQuery, beatQuery, sceneQuery};
 
 // The frames of no scene.
@@ -46,6 +47,7 @@ pub fn bounded(query: Query) -> RuledQuery
     RuledQuery {
         kind: query.kind,
         rule: rule_of(bound),
+        width: query.width,
         firsts: no_frames(),
         lasts: no_frames(),
     }
@@ -58,6 +60,7 @@ pub fn beats(kind: u8, length: u16, start: u16) -> RuledQuery
     RuledQuery {
         kind,
         rule: Rule::Every { length, start },
+        width: 1,
         firsts: no_frames(),
         lasts: no_frames(),
     }
@@ -94,6 +97,7 @@ pub fn scenes(kind: u8, firsts: &[u16], lasts: &[u16]) -> RuledQuery
     RuledQuery {
         kind,
         rule: Rule::Scenes(count),
+        width: 1,
         firsts: frames_of(firsts),
         lasts: frames_of(lasts),
     }
@@ -157,14 +161,24 @@ fn said(question: u8, passed: bool) -> Asked
     no(question, 0)
 }
 
-// Question 3, of a bound.
-pub fn ask_bound(bound: Bound) -> Asked
-    ensures { λ r. ⌜ askedCase r ≡ outcome (ask 3 0 (boundKnown bound) ∷ []) tt ⌝ }
+// Whether a row limit or a share is one that a query can have.
+fn bound_is_known(bound: Bound) -> bool
+    ensures { λ r. ⌜ r ≡ boundKnown bound ⌝ }
 {
     match bound {
-        Bound::Rows(c) => said(3, c <= 64),
-        Bound::Share(p) => said(3, p <= MOST_SHARE),
+        Bound::Rows(c) => c <= 64,
+        Bound::Share(p) => p <= MOST_SHARE,
     }
+}
+
+// Questions 3 and 25, of a bound and the width of a memory.
+pub fn ask_bound(bound: Bound, width: u16) -> Asked
+    ensures { λ r. ⌜ askedCase r ≡ outcome (ask 3 0 (boundKnown bound) ∷ askWidth width ∷ []) tt ⌝ }
+{
+    if !bound_is_known(bound) {
+        return no(3, 0);
+    }
+    said(25, is_width(width))
 }
 
 // Question 18 or 19, of a query by windows.

@@ -5,6 +5,7 @@ use mathlib.Core.List.{List, [], _++_}
 use mathlib.Core.Logic.{⊎-elim}
 use mathlib.Core.Option.{Option}
 use mathlib.Core.Path.{_≡_, refl, ap, _∙_}
+use native.Mathlib.Nat.{sub-zero}
 use native.Mathlib.Omega.{arith}
 use lib.ListN.{length}
 use borrow.Author.Tests.{lt-ltb}
@@ -19,7 +20,7 @@ use Rattle.segments.proofs.Stretches.{frames-before}
 
 -- segments are the joined frames of all groups
 pub segments-joined : (kind : ℕ) (rs : List (Span ℕ))
-    → joined (groupsFrom (value kind rs) frameCount 0 groupCount) ≡ segments kind rs
+    → joined (groupsFrom (value kind 1 rs) frameCount 0 groupCount) ≡ segments kind 1 rs
 unfolding segments segmentsOf joined
 segments-joined kind rs = refl
 
@@ -37,19 +38,20 @@ module _ {A : Type 0} (val : ℕ → ℕ → Option A) (frames : ℕ) where
 
 -- the frames of a group have the values that its records give them
 pub frames-own : (kind : ℕ) (rs : List (Span ℕ)) (g : ℕ) → g < groupCount → (f count : ℕ) → f + count ≤ frameCount
-    → framesFrom (value kind rs) g f count [] ≡ framesFrom (ownValue kind (onlyOf g rs)) g f count []
+    → framesFrom (value kind 1 rs) g f count [] ≡ framesFrom (ownValue kind (onlyOf g rs)) g f count []
 unfolding framesFrom value ownValue
 frames-own kind rs g in-groups f zero within = refl
 frames-own kind rs g in-groups f (suc count) within =
     rw (
       lt-ltb g groupCount in-groups,
       lt-ltb f frameCount (omega arith),
+      sub-zero f,
       meeting-own rs g f f,
       frames-own kind rs g in-groups (suc f) count (omega arith),
     )
 
-pub enough-places : (kind : ℕ) (rs : List (Span ℕ)) → length rs ≤ 128 → length (segments kind rs) ≤ 255
+pub enough-places : (kind : ℕ) (rs : List (Span ℕ)) → length rs ≤ 128 → length (segments kind 1 rs) ≤ 255
 enough-places kind rs few =
-    ⊎-elim (λ (none : length (segments kind rs) ≡ 0). omega arith)
-    (λ (some-few : suc (length (segments kind rs)) ≤ 2 * length rs). omega arith)
-    (few-segments kind rs)
+    ⊎-elim (λ (none : length (segments kind 1 rs) ≡ 0). omega arith)
+    (λ (some-few : suc (length (segments kind 1 rs)) ≤ 2 * length rs). omega arith)
+    (few-segments kind 1 rs)

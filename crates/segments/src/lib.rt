@@ -1,6 +1,8 @@
 // Instant temporal aggregation: from a log's records to its segments, group by group and from event to event. Arrays are lent and
 // never copied.
 
+use common::is_width;
+use common::no;
 use model::Asked;
 use model::MOST_GROUP;
 use model::MOST_KIND;
@@ -18,8 +20,8 @@ ghost use Prim.Native.Nat.{ℕ, suc, _-_, _≤_};
 ghost use lib.ListN.{length};
 ghost use Rattle.model.specs.Spans.{frameCount};
 ghost use Rattle.model.specs.Segments.{framesFrom, segments};
-ghost use Rattle.model.specs.Questions.{refused, lent, logQuestions, segmentsQuestions, mostRecords};
-ghost use Rattle.model.specs.Calls.{segmentSpan, segmentsCase, segmentsOutcome, logSegments};
+ghost use Rattle.model.specs.Questions.{refused, outcome, lent, logQuestions, segmentsQuestions, mostRecords};
+ghost use Rattle.model.specs.Calls.{segmentSpan, askedCase, segmentsCase, segmentsOutcome, logSegments};
 ghost use Rattle.model.specs.Arrays.{spansIn, segmentArrays};
 ghost use Rattle.model.specs.Demands.{AllPass};
 ghost use Rattle.tally.specs.Tally.{ownsIn, Survey, ownValue};
@@ -164,7 +166,7 @@ pub fn find<'a>(
 ) -> usize
     requires { ⌜ count ≤ mostRecords ⌝ }
     requires { ⌜ arraysOf (now «to_groups») (now «to_firsts») (now «to_lasts») (now «to_values») 0 ≡ segmentArrays [] ⌝ }
-    ensures { λ r. ⌜ arraysOf (now («to_groups» .exit)) (now («to_firsts» .exit)) (now («to_lasts» .exit)) (now («to_values» .exit)) r ≡ segmentArrays (segments kind (spansIn (now (groups .entry)) (now (firsts .entry)) (now (lasts .entry)) (now (loads .entry)) count)) ⌝ }
+    ensures { λ r. ⌜ arraysOf (now («to_groups» .exit)) (now («to_firsts» .exit)) (now («to_lasts» .exit)) (now («to_values» .exit)) r ≡ segmentArrays (segments kind 1 (spansIn (now (groups .entry)) (now (firsts .entry)) (now (lasts .entry)) (now (loads .entry)) count)) ⌝ }
 {
     let mut own_firsts = [0u16; MOST_RECORDS];
     let mut own_lasts = [0u16; MOST_RECORDS];
@@ -199,36 +201,34 @@ pub fn find<'a>(
     made
 }
 
-// The segments of a log whose questions are passed.
-pub fn of_log(log: &[u8], kind: u8) -> Segments
+// The segments of a log whose questions are passed, with a memory of so many frames; gives their number.
+pub fn of_log(
+    log: &[u8],
+    kind: u8,
+    width: u16,
+    groups: &mut [u8; MOST_SEGMENTS],
+    firsts: &mut [u16; MOST_SEGMENTS],
+    lasts: &mut [u16; MOST_SEGMENTS],
+    values: &mut [u32; MOST_SEGMENTS],
+) -> usize
     requires { ⌜ AllPass (logQuestions (now log)) ⌝ }
-    ensures { λ r. ⌜ r ≡ segmentArrays (logSegments kind (now (log .entry))) ⌝ }
+    requires { ⌜ 1 ≤ width ⌝ }
+    requires { ⌜ arraysOf (now groups) (now firsts) (now lasts) (now values) 0 ≡ segmentArrays [] ⌝ }
+    ensures { λ r. ⌜ arraysOf (now (groups .exit)) (now (firsts .exit)) (now (lasts .exit)) (now (values .exit)) r ≡ segmentArrays (logSegments kind width (now (log .entry))) ⌝ }
 {
-    let records = log::decode(log);
-    let record_count = records.count;
-    let mut groups = [0u8; MOST_SEGMENTS];
-    let mut firsts = [0u16; MOST_SEGMENTS];
-    let mut lasts = [0u16; MOST_SEGMENTS];
-    let mut values = [0u32; MOST_SEGMENTS];
-    let count = find(
+    let records = memory::records(log, width);
+    find(
         &records.groups,
         &records.firsts,
         &records.lasts,
         &records.loads,
-        record_count,
+        records.count,
         kind,
-        &mut groups,
-        &mut firsts,
-        &mut lasts,
-        &mut values,
-    );
-    Segments {
         groups,
         firsts,
         lasts,
         values,
-        count,
-    }
+    )
 }
 
 // A refused segment call.
@@ -247,23 +247,51 @@ fn refuse(question: u8, index: usize) -> Found
     }
 }
 
-// The segments of a log, where there are places for as many as a log can have.
-pub fn find_in_log(log: &[u8], kind: u8, places: usize) -> Found
-    ensures says { λ r. ⌜ segmentsCase (r .answer) ≡ segmentsOutcome kind (now (log .entry)) places ⌝ }
-    ensures holds { λ r. ⌜ r .segments ≡ segmentArrays (lent (segmentsQuestions kind (now (log .entry)) places) (logSegments kind (now (log .entry))) []) ⌝ }
+// What the segment call asks: places for as many segments as a log can have, the kind, the width, and then the log.
+fn ask(log: &[u8], kind: u8, width: u16, places: usize) -> Asked
+    ensures { λ r. ⌜ askedCase r ≡ outcome (segmentsQuestions kind width (now (log .entry)) places) tt ⌝ }
 {
     if places < MOST_SEGMENTS {
-        return refuse(1, 0);
+        return no(1, 0);
     }
     if kind > MOST_KIND {
-        return refuse(2, 0);
+        return no(2, 0);
     }
-    match log::ask(log) {
+    if !is_width(width) {
+        return no(25, 0);
+    }
+    log::ask(log)
+}
+
+// The segments of a log, where every question is passed.
+pub fn find_in_log(log: &[u8], kind: u8, width: u16, places: usize) -> Found
+    ensures says { λ r. ⌜ segmentsCase (r .answer) ≡ segmentsOutcome kind width (now (log .entry)) places ⌝ }
+    ensures holds { λ r. ⌜ r .segments ≡ segmentArrays (lent (segmentsQuestions kind width (now (log .entry)) places) (logSegments kind width (now (log .entry))) []) ⌝ }
+{
+    match ask(log, kind, width, places) {
         Asked::Passed => {
-            let segments = of_log(log, kind);
+            let mut groups = [0u8; MOST_SEGMENTS];
+            let mut firsts = [0u16; MOST_SEGMENTS];
+            let mut lasts = [0u16; MOST_SEGMENTS];
+            let mut values = [0u32; MOST_SEGMENTS];
+            let count = of_log(
+                log,
+                kind,
+                width,
+                &mut groups,
+                &mut firsts,
+                &mut lasts,
+                &mut values,
+            );
             Found {
-                answer: SegmentsAnswer::Found(segments.count),
-                segments,
+                answer: SegmentsAnswer::Found(count),
+                segments: Segments {
+                    groups,
+                    firsts,
+                    lasts,
+                    values,
+                    count,
+                },
             }
         }
         Asked::Refused(refusal) => refuse(refusal.question, refusal.index),

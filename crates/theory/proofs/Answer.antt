@@ -74,12 +74,12 @@ whole-rows kind seg i (j ∷ js) =
     map-append whole (rowsOf (rowValue kind) seg j js) (rowOf (rowValue kind) seg j i ∷ [])
     ∙ ap (λ l. l ++ (bestRow (rowCost kind) seg j i ∷ [])) (whole-rows kind seg j js)
 
-module _ (kind : ℕ) (rs : List (Span ℕ)) where
+module _ (kind width : ℕ) (rs : List (Span ℕ)) where
   abbrev val : ℕ → ℕ → Option ℕ
-  val = value kind rs
+  val = value kind width rs
 
   abbrev segs : List (Span ℕ)
-  segs = segments kind rs
+  segs = segments kind width rs
 
   abbrev seg : ℕ → Span ℕ
   seg = segmentAt segs
@@ -96,12 +96,12 @@ module _ (kind : ℕ) (rs : List (Span ℕ)) where
   reach cuts is =
       rw (whole-rows kind seg n cuts) (
         record {
-          covers = fits (rowCost kind) val groupCount frameCount (value-inside kind rs) seg n (by-number segs) cuts is;
+          covers = fits (rowCost kind) val groupCount frameCount (value-inside kind width rs) seg n (by-number segs) cuts is;
           nowhereBelow = λ k g f v z p q.
-              allowed (rowCost kind) val groupCount frameCount (value-inside kind rs) seg n (by-number segs) cuts is g f v z p q k;
+              allowed (rowCost kind) val groupCount frameCount (value-inside kind width rs) seg n (by-number segs) cuts is g f v z p q k;
         },
-        error (rowCost kind) val groupCount frameCount (value-inside kind rs) seg n (by-number segs) cuts is,
-        count (rowCost kind) val groupCount frameCount (value-inside kind rs) seg n (by-number segs) cuts is,
+        error (rowCost kind) val groupCount frameCount (value-inside kind width rs) seg n (by-number segs) cuts is,
+        count (rowCost kind) val groupCount frameCount (value-inside kind width rs) seg n (by-number segs) cuts is,
       )
 
   -- a list that fits for the kind is no better than some reduction
@@ -110,7 +110,7 @@ module _ (kind : ℕ) (rs : List (Span ℕ)) where
       × (reductionError (errorOf kind segs) n cuts ≤ squaredError val rows)
   unfolding gapBelow squaredError errorUnder errorOf blockError errorWith errorIn costOf rowCost segments
   beaten rows f =
-      no-better (rowCost kind) val groupCount frameCount (value-inside kind rs) seg n (by-number segs) rows (f .covers)
+      no-better (rowCost kind) val groupCount frameCount (value-inside kind width rs) seg n (by-number segs) rows (f .covers)
       (λ g x v z p q k. f .nowhereBelow k g x v z p q)
 
   by-reductions : ByReductions (rowLists kind val) seg n (errorOf kind segs)

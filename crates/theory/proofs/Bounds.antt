@@ -131,11 +131,11 @@ meeting-le (r ∷ rs) g a b small =
     ))
     (λ e. rw e (omega arith, ih .1))
 
--- a frame's value is that of the loads that meet it
-frame-value : (kind : ℕ) (rs : List (Span ℕ)) (g f v : ℕ) → value kind rs g f ≡ some v
-    → aggregated kind (meeting rs g f f) ≡ some v
+-- a frame's value is that of the loads that meet the frames it remembers
+pub frame-value : (kind width : ℕ) (rs : List (Span ℕ)) (g f v : ℕ) → value kind width rs g f ≡ some v
+    → aggregated kind (meeting rs g (f - (width - 1)) f) ≡ some v
 unfolding value
-frame-value kind rs g f v e =
+frame-value kind width rs g f v e =
     cases (ltb g groupCount && ltb f frameCount) (λ t. rw t at e) (λ t. absurd (none≢some refl (rw t at e)))
 
 module _ (kind : ℕ) (rs : List (Span ℕ)) (few : length rs ≤ mostRecords)
@@ -159,33 +159,33 @@ module _ (kind : ℕ) (rs : List (Span ℕ)) (few : length rs ≤ mostRecords)
   stretch-le = at-stretch (λ l v. v ≤ mostValue) (aggregate-le kind)
 
   -- so is a frame's
-  pub value-le : (g f v : ℕ) → value kind rs g f ≡ some v → v ≤ mostValue
-  value-le g f v e = stretch-le g f f v (frame-value kind rs g f v e)
+  pub value-le : (width g f v : ℕ) → value kind width rs g f ≡ some v → v ≤ mostValue
+  value-le width g f v e = stretch-le g (f - (width - 1)) f v (frame-value kind width rs g f v e)
 
   -- so is a segment's
-  pub segment-value-le : (s : Span ℕ) → List·Memᴰ s (segments kind rs) → s .value ≤ mostValue
-  segment-value-le s m =
-      value-le (s .group) (s .first) (s .value)
-      (segmentation kind rs .constant s m (s .first) (le-refl _) (segmentation kind rs .ordered s m))
+  pub segment-value-le : (width : ℕ) (s : Span ℕ) → List·Memᴰ s (segments kind width rs) → s .value ≤ mostValue
+  segment-value-le width s m =
+      value-le width (s .group) (s .first) (s .value)
+      (segmentation kind width rs .constant s m (s .first) (le-refl _) (segmentation kind width rs .ordered s m))
 
 -- kind 4 is the mean in hundredths
-pub mean : (log : List ℕ) → AllPass (fileQuestions log) → (g f v : ℕ) → value 4 (records log) g f ≡ some v
-    → MeanInHundredths (meeting (records log) g f f) v
-mean log all g f v e =
+pub mean : (width : ℕ) (log : List ℕ) → AllPass (fileQuestions log) → (g f v : ℕ) → value 4 width (records log) g f ≡ some v
+    → MeanInHundredths (meeting (records log) g (f - (width - 1)) f) v
+mean width log all g f v e =
     let (few, sound) = sound-records log all in
-    at-stretch 4 (records log) few (λ r m. sound r m .2) MeanInHundredths (λ x xs short low. mean-in-hundredths x xs low) g f f v
-    (frame-value 4 (records log) g f v e)
+    at-stretch 4 (records log) few (λ r m. sound r m .2) MeanInHundredths (λ x xs short low. mean-in-hundredths x xs low) g _ f v
+    (frame-value 4 width (records log) g f v e)
 
 -- the segments have no more frames than there are
-pub frames-le : (kind : ℕ) (rs : List (Span ℕ)) → sumOf spanLength (segments kind rs) ≤ groupCount * frameCount
+pub frames-le : (kind width : ℕ) (rs : List (Span ℕ)) → sumOf spanLength (segments kind width rs) ≤ groupCount * frameCount
 unfolding segments overFrames worth
-frames-le kind rs =
-    let ones = segments-weigh eqb eqb-true (value kind rs) groupCount frameCount (λ v. 1) in
-    let most = overFrames-le groupCount frameCount (λ g f. worth (λ v. 1) (value kind rs g f)) (λ g f. 1)
-    (λ g f a b. one-le (value kind rs g f)) in
+frames-le kind width rs =
+    let ones = segments-weigh eqb eqb-true (value kind width rs) groupCount frameCount (λ v. 1) in
+    let most = overFrames-le groupCount frameCount (λ g f. worth (λ v. 1) (value kind width rs g f)) (λ g f. 1)
+    (λ g f a b. one-le (value kind width rs g f)) in
     let all = sumFrom-const 0 groupCount frameCount (λ g. sumFrom 0 frameCount (λ f. 1))
     (λ g a b. sumFrom-const 0 frameCount 1 (λ f. 1) (λ f c d. refl) ∙ omega arith) in
-    let same = sumOf-cong spanLength (λ s. spanLength s * 1) (segments kind rs) (λ s m. omega arith) in
+    let same = sumOf-cong spanLength (λ s. spanLength s * 1) (segments kind width rs) (λ s m. omega arith) in
     omega arith
   where
     one-le : (o : Option ℕ) → worth (λ v. 1) o ≤ 1
@@ -211,15 +211,15 @@ squared-le v r small low =
 -- ---- measured segments
 
 -- the segments of a log whose questions are passed are measured
-pub logs-measured : (kind : ℕ) (log : List ℕ) → AllPass (fileQuestions log) → Measured (logSegments kind log)
+pub logs-measured : (kind width : ℕ) (log : List ℕ) → AllPass (fileQuestions log) → Measured (logSegments kind width log)
 unfolding logSegments groupCount frameCount mostSegments
-logs-measured kind log all =
+logs-measured kind width log all =
     let sound = sound-records log all in
     record {
-      few = segment-count kind log all;
-      proper = segmentation kind (records log) .ordered;
-      low-values = segment-value-le kind (records log) (sound .0) (λ r m. sound .1 r m .2);
-      frames = frames-le kind (records log);
+      few = segment-count kind width log all;
+      proper = segmentation kind width (records log) .ordered;
+      low-values = segment-value-le kind (records log) (sound .0) (λ r m. sound .1 r m .2) width;
+      frames = frames-le kind width (records log);
     }
 
 -- ---- segments by number

@@ -1,7 +1,7 @@
 -- A slot against its log: it is accepted exactly if its rows fit the log for its kind, with its error as their squared error; whatever
 -- fits passes; and any order of the log gives the same answer. Assumes nothing.
 use Prim.Native.Nat.{ℕ, _≤_, _<_}
-use mathlib.Core.Bool.{Bool, true, false, _&&_, _||_, and-false}
+use mathlib.Core.Bool.{Bool, true, false, _&&_, _||_, and-false, cond}
 use mathlib.Core.List.{List, [], _∷_, _++_, map, List·Memᴰ, List·Memᴰ·head, List·Memᴰ·tail, List·Memᴰ·cases-cons, List·Memᴰ·not-nil}
 use mathlib.Core.Logic.{⊎-elim}
 use mathlib.Core.Option.{Option, none, some}
@@ -15,7 +15,7 @@ use Rattle.model.specs.Common.{every}
 use Rattle.model.specs.Spans.{Span, groupCount, frameCount, meets, holds}
 use Rattle.model.specs.Log.{records, greatestKind, value}
 use Rattle.model.specs.Slot.{slotLength, byBound, byWindows, slotBytes, slotMark, slotKind, slotCount, slotError, slotRow, slotRows, valueIn}
-use Rattle.model.specs.Questions.{Question, accepted, refused, ask, askRoom, marked, outcome, logQuestions, headerMarked, slotQuestions}
+use Rattle.model.specs.Questions.{Question, accepted, refused, ask, askRoom, marked, outcome, logQuestions, headerMarked, slotQuestions, askWidth, widthKnown}
 use Rattle.model.specs.Calls.{Header, readOutcome, readRows}
 use Rattle.model.specs.Fitting.{hits, due, Fits, NowhereBelow, whole}
 use Rattle.model.specs.Check.{everyFrame, coveredAlike, notBelow, sameCover, neverBelow, againstQuestions, boundedQuestions, checkQuestions, checkOutcome}
@@ -97,16 +97,16 @@ value-whole g f (s ∷ rows) r e =
 -- ---- the three questions, and the words of demand 3
 
 -- rows in order among the groups and frames, against the values of frames there
-module _ (kind : ℕ) (rs rows : List (Span ℕ)) where
+module _ (kind width : ℕ) (rs rows : List (Span ℕ)) where
   abbrev val : ℕ → ℕ → Option ℕ
-  val = value kind rs
+  val = value kind width rs
 
   outside : (g f : ℕ) → (g < groupCount → f < frameCount → ⊥) → val g f ≡ none
   outside g f far = by (val g f) refl
     where
       by : (o : Option ℕ) → val g f ≡ o → val g f ≡ none
       by none e = e
-      by (some v) e = let i = value-inside kind rs g f v e in absurd (far (i .0) (i .1))
+      by (some v) e = let i = value-inside kind width rs g f v e in absurd (far (i .0) (i .1))
 
   module _ (order : InOrder rows) (held : (r : Span ℕ) → List·Memᴰ r rows → Held r) where
     free : (g f : ℕ) → (g < groupCount → f < frameCount → ⊥) → hits rows g f ≡ 0
@@ -148,7 +148,7 @@ module _ (kind : ℕ) (rs rows : List (Span ℕ)) where
   unfolding neverBelow notBelow
   above never g f v z e label =
       let (r, is, same) = whole-value rows g f z label in
-      let (in-groups, in-frames) = value-inside kind rs g f v e in
+      let (in-groups, in-frames) = value-inside kind width rs g f v e in
       rw same (leb-true v r (rw (e, is, notBelow) at (every-frame _ never g f in-groups in-frames)))
 
   never-below : NowhereBelow val (map whole rows) → neverBelow val rows ≡ true
@@ -176,34 +176,37 @@ marked-bound slot e is = by (eqb (getD slot 0 0) 0x50) (rw is at e)
     by false e = e
 
 -- what a log and a slot that pass their questions have
-module _ (log slot : List ℕ) where
+module _ (width : ℕ) (log slot : List ℕ) where
   abbrev against : List Question
-  against = againstQuestions (slotKind slot) (slotError slot) (slotRows slot) (value (slotKind slot) (records log))
+  against = againstQuestions (slotKind slot) (slotError slot) (slotRows slot) (value (slotKind slot) width (records log))
 
-  -- all questions are passed exactly if the log's, the slot's with the mark of a bound, and 22 to 24 are
-  pub in-parts : AllPass (checkQuestions log slot)
-      → AllPass (logQuestions log) × AllPass (slotQuestions slot) × (slotMark slot ≡ byBound) × AllPass against
-  unfolding checkQuestions boundedQuestions slotQuestions ask marked slotMark
+  -- all questions are passed exactly if 25, the log's, the slot's with the mark of a bound, and 22 to 24 are
+  pub in-parts : AllPass (checkQuestions width log slot)
+      → (widthKnown width ≡ true) × AllPass (logQuestions log) × AllPass (slotQuestions slot) × (slotMark slot ≡ byBound) × AllPass against
+  unfolding checkQuestions boundedQuestions slotQuestions ask askWidth marked slotMark
   in-parts all =
-      let behind = all-tail _ _ all in
+      let behind = all-tail _ _ (all-tail _ _ all) in
       let own = all-right (logQuestions log) _ behind in
       let bounded = all-left (boundedQuestions slot) against own in
       let mark = all-head _ _ bounded in (
+        all-head _ _ (all-tail _ _ all),
         all-left (logQuestions log) _ behind,
         all-cons _ _ (all-head _ _ all) (all-cons _ _ (bound-marked slot mark) (all-tail _ _ bounded)),
         eqb-true _ _ (and-true (eqb (getD slot 0 0) 0x50) (eqb (getD slot 1 0) byBound) mark .1),
         all-right (boundedQuestions slot) against own,
       )
 
-  from-parts : AllPass (logQuestions log) → AllPass (slotQuestions slot) → slotMark slot ≡ byBound → AllPass against
-      → AllPass (checkQuestions log slot)
-  unfolding checkQuestions boundedQuestions slotQuestions ask
-  from-parts logged read mark rest =
+  from-parts : widthKnown width ≡ true → AllPass (logQuestions log) → AllPass (slotQuestions slot) → slotMark slot ≡ byBound
+      → AllPass against
+      → AllPass (checkQuestions width log slot)
+  unfolding checkQuestions boundedQuestions slotQuestions ask askWidth
+  from-parts known logged read mark rest =
       let behind = all-tail _ _ read in
       all-cons _ _ (all-head _ _ read)
+      (all-cons _ _ known
       (all-append (logQuestions log) _ logged
       (all-append (boundedQuestions slot) against
-      (all-cons _ _ (marked-bound slot (all-head _ _ behind) mark) (all-tail _ _ behind)) rest))
+      (all-cons _ _ (marked-bound slot (all-head _ _ behind) mark) (all-tail _ _ behind)) rest)))
 
   -- a slot that passes its questions is read to what it holds
   reads-own : AllPass (slotQuestions slot) → slotMark slot ≡ byBound → Reads slot byBound (slotKind slot) (slotError slot) (slotRows slot)
@@ -215,10 +218,10 @@ module _ (log slot : List ℕ) where
       }
 
   -- an accepted slot agrees with its log
-  pub accepted-agrees : Bytes slot → checkOutcome log slot ≡ accepted tt → Agrees log slot
+  pub accepted-agrees : Bytes slot → checkOutcome width log slot ≡ accepted tt → Agrees width log slot
   unfolding checkOutcome againstQuestions ask
   accepted-agrees small e =
-      let (logged, read, mark, rest) = in-parts (outcome-accepted (checkQuestions log slot) tt tt e .0) in
+      let (known, logged, read, mark, rest) = in-parts (outcome-accepted (checkQuestions width log slot) tt tt e .0) in
       let kind = slotKind slot in
       let rows = slotRows slot in
       let rs = records log in
@@ -226,18 +229,19 @@ module _ (log slot : List ℕ) where
         kind = kind;
         error = slotError slot;
         rows = rows;
+        known = known;
         logPasses = logged;
         reads = reads-own read mark;
         fits =
             record {
-              covers = covers kind rs rows (rows-in-order slot small read) (rows-held slot small read) (all-head _ _ rest);
-              nowhereBelow = λ is. above kind rs rows (rw (eq-eqb kind greatestKind is) at (all-head _ _ (all-tail _ _ rest)));
+              covers = covers kind width rs rows (rows-in-order slot small read) (rows-held slot small read) (all-head _ _ rest);
+              nowhereBelow = λ is. above kind width rs rows (rw (eq-eqb kind greatestKind is) at (all-head _ _ (all-tail _ _ rest)));
             };
         hasError = sym (eqb-true _ _ (all-head _ _ (all-tail _ _ (all-tail _ _ rest))));
       }
 
   -- and one that agrees is accepted
-  pub agrees-accepted : Agrees log slot → checkOutcome log slot ≡ accepted tt
+  pub agrees-accepted : Agrees width log slot → checkOutcome width log slot ≡ accepted tt
   unfolding checkOutcome againstQuestions ask readOutcome readRows
   agrees-accepted a =
       let (read, header) = outcome-accepted (slotQuestions slot) _ _ (a .reads .header) in
@@ -248,32 +252,34 @@ module _ (log slot : List ℕ) where
       let fits = rw (kind, rows) at (a .fits) in
       let same = rw (kind, rows, error) at (a .hasError) in
       let rs = records log in
-      all-outcome (checkQuestions log slot) tt
-      (from-parts (a .logPasses) read mark
-      (all-cons _ _ (covered (slotKind slot) rs (slotRows slot) (fits .covers))
+      all-outcome (checkQuestions width log slot) tt
+      (from-parts (a .known) (a .logPasses) read mark
+      (all-cons _ _ (covered (slotKind slot) width rs (slotRows slot) (fits .covers))
       (all-cons _ _
       (cases (eqb (slotKind slot) greatestKind)
-      (λ t. rw t (never-below (slotKind slot) rs (slotRows slot) (fits .nowhereBelow (eqb-true _ _ t)))) (λ t. rw t))
+      (λ t. rw t (never-below (slotKind slot) width rs (slotRows slot) (fits .nowhereBelow (eqb-true _ _ t)))) (λ t. rw t))
       (all-cons _ _ (eq-eqb _ _ (sym same)) all-nil))))
 
-  -- a slot by windows is refused as 11, once the log has passed
-  pub not-by-windows : slotLength ≤ length slot → AllPass (logQuestions log) → slotMark slot ≡ byWindows → checkOutcome log slot ≡ refused 11 0
-  unfolding checkOutcome checkQuestions boundedQuestions askRoom ask outcome marked slotMark
-  not-by-windows long logged mark =
-      rw (le-leb slotLength (length slot) long)
+  -- a slot by windows is refused as 11, once width and log have passed
+  pub not-by-windows : slotLength ≤ length slot → widthKnown width ≡ true → AllPass (logQuestions log) → slotMark slot ≡ byWindows
+      → checkOutcome width log slot ≡ refused 11 0
+  unfolding checkOutcome checkQuestions boundedQuestions askRoom askWidth ask outcome marked slotMark
+  not-by-windows long known logged mark =
+      rw (le-leb slotLength (length slot) long, known)
       (outcome-behind (logQuestions log) _ tt logged ∙ rw (mark, and-false (eqb (getD slot 0 0) 0x50)))
 
 -- whatever fits passes
-pub whatever-fits : (log rest : List ℕ) (kind error : ℕ) (rows : List (Span ℕ)) → AllPass (logQuestions log)
-    → Storable byBound kind error rows → (listsFor kind log) .fits (map whole rows)
-    → (listsFor kind log) .error (map whole rows) ≡ error
-    → checkOutcome log (slotBytes byBound kind error rows ++ rest) ≡ accepted tt
-whatever-fits log rest kind error rows logged storable fits same =
-    agrees-accepted log (slotBytes byBound kind error rows ++ rest)
+pub whatever-fits : (width : ℕ) (log rest : List ℕ) (kind error : ℕ) (rows : List (Span ℕ)) → widthKnown width ≡ true
+    → AllPass (logQuestions log) → Storable byBound kind error rows → (listsFor kind width log) .fits (map whole rows)
+    → (listsFor kind width log) .error (map whole rows) ≡ error
+    → checkOutcome width log (slotBytes byBound kind error rows ++ rest) ≡ accepted tt
+whatever-fits width log rest kind error rows known logged storable fits same =
+    agrees-accepted width log (slotBytes byBound kind error rows ++ rest)
     (record {
       kind = kind;
       error = error;
       rows = rows;
+      known = known;
       logPasses = logged;
       reads = round-trip byBound kind error rows rest storable;
       fits = fits;
@@ -281,14 +287,13 @@ whatever-fits log rest kind error rows logged storable fits same =
     })
 
 -- any order of the log gives the same answer
-pub check-any-order : (log other slot : List ℕ) → Shuffled log other → checkOutcome log slot ≡ checkOutcome other slot
-unfolding checkOutcome checkQuestions outcome askRoom ask
-check-any-order log other slot both =
+pub check-any-order : (width : ℕ) (log other slot : List ℕ) → Shuffled log other
+    → checkOutcome width log slot ≡ checkOutcome width other slot
+unfolding checkOutcome checkQuestions outcome askRoom askWidth ask
+check-any-order width log other slot both =
     let behind : (ℕ → ℕ → Option ℕ) → List Question =
     λ val. boundedQuestions slot ++ againstQuestions (slotKind slot) (slotError slot) (slotRows slot) val in
-    cases (leb slotLength (length slot))
-    (λ t. rw t
+    ap (λ o. cond (leb slotLength (length slot)) (cond (widthKnown width) o (refused 25 0)) (refused 1 0))
     (outcome-behind (logQuestions log) _ tt (both .passes)
-    ∙ ap (λ val. outcome (behind val) tt) (value-order (slotKind slot) (both .sameRecords))
-    ∙ sym (outcome-behind (logQuestions other) _ tt (both .otherPasses))))
-    (λ t. rw t)
+    ∙ ap (λ val. outcome (behind val) tt) (value-order (slotKind slot) (both .sameRecords) width)
+    ∙ sym (outcome-behind (logQuestions other) _ tt (both .otherPasses)))

@@ -4,13 +4,14 @@
 use Prim.Native.Nat.{ℕ, suc, _+_, _*_, _≤_, _<_}
 use mathlib.Core.Bool.{cond}
 use mathlib.Core.List.{List, [], _∷_, List·Memᴰ}
-use mathlib.Core.Path.{_≡_, refl, _∙_}
+use mathlib.Core.Path.{_≡_, refl, _∙_, ap}
 use native.Mathlib.Omega.{arith}
 use lib.Dec.{eqb}
 use borrow.Author.Tests.{leb-true, lt-ltb, eqb-true}
 use Rattle.model.specs.Common.{sumOf, numberAt}
 use Rattle.model.specs.Spans.{Span, groupCount, frameCount, spanLength, meets, holds}
 use Rattle.model.specs.Log.{recordLength, recordAt, recordCount, records, meeting, sum, aggregate, aggregated, value}
+use Rattle.model.specs.NoMemory.{plainValue}
 use Rattle.model.specs.Segments.{segments}
 use Rattle.model.specs.Questions.{ask, groupKnown, spanQuestions, recordQuestions, fileQuestions}
 use Rattle.model.specs.Calls.{logSegments}
@@ -20,6 +21,7 @@ use Rattle.theory.proofs.Sums.{sumOf-cong, overFrames-cong, overFrames-
 use Rattle.theory.proofs.Frames.{worth, segments-weigh}
 use Rattle.theory.proofs.Converse.{member-listFrom}
 use Rattle.theory.proofs.Refusals.{all-head, all-tail, all-at}
+use Rattle.theory.proofs.Memory.{value-one}
 
 -- ---- the value of a frame
 
@@ -34,10 +36,11 @@ meeting-sum (r ∷ rs) g f =
 
 -- a frame inside is worth the loads of the records that contain it
 value-sum : (rs : List (Span ℕ)) (g f : ℕ) → g < groupCount → f < frameCount
-    → worth (λ v. v) (value 0 rs g f) ≡ sumOf (λ r. cond (holds r g f) (r .value) 0) rs
-unfolding value sum worth aggregated aggregate
+    → worth (λ v. v) (value 0 1 rs g f) ≡ sumOf (λ r. cond (holds r g f) (r .value) 0) rs
+unfolding plainValue sum worth aggregated aggregate
 value-sum rs g f a b =
-    rw (true-and _ _ (lt-ltb g groupCount a) (lt-ltb f frameCount b)) (summed (meeting rs g f f) ∙ meeting-sum rs g f)
+    ap (worth (λ v. v)) (value-one 0 rs g f)
+    ∙ rw (true-and _ _ (lt-ltb g groupCount a) (lt-ltb f frameCount b)) (summed (meeting rs g f f) ∙ meeting-sum rs g f)
   where
     summed : (l : List ℕ) → worth (λ v. v) (aggregated 0 l) ≡ sum l
     summed [] = refl
@@ -46,10 +49,10 @@ value-sum rs g f a b =
 -- records that lie inside
 loads-conserved : (rs : List (Span ℕ))
     → ((r : Span ℕ) → List·Memᴰ r rs → (r .group < groupCount) × (r .last < frameCount))
-    → sumOf (λ s. spanLength s * s .value) (segments 0 rs) ≡ sumOf (λ r. spanLength r * r .value) rs
+    → sumOf (λ s. spanLength s * s .value) (segments 0 1 rs) ≡ sumOf (λ r. spanLength r * r .value) rs
 unfolding segments
 loads-conserved rs inside =
-    segments-weigh eqb eqb-true (value 0 rs) groupCount frameCount (λ v. v)
+    segments-weigh eqb eqb-true (value 0 1 rs) groupCount frameCount (λ v. v)
     ∙ overFrames-cong groupCount frameCount _ _ (value-sum rs)
     ∙ overFrames-sumOf groupCount frameCount (λ g f r. cond (holds r g f) (r .value) 0) rs
     ∙ sumOf-cong _ _ rs
@@ -72,7 +75,7 @@ record-inside log small i all =
 
 -- demand 2, `conserved`
 pub conserved : (log : List ℕ) → Bytes log → AllPass (fileQuestions log)
-    → sumOf (λ s. spanLength s * s .value) (logSegments 0 log) ≡ sumOf (λ r. spanLength r * r .value) (records log)
+    → sumOf (λ s. spanLength s * s .value) (logSegments 0 1 log) ≡ sumOf (λ r. spanLength r * r .value) (records log)
 unfolding logSegments records fileQuestions
 conserved log small all =
     loads-conserved (records log)

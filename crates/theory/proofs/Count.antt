@@ -3,17 +3,18 @@
 -- has one ahead of it; so the segments from a frame on are counted against the events ahead of it. Assumes nothing.
 use Prim.Native.Nat.{ℕ, zero, suc, _+_, _*_, _≤_, _<_, zero-le}
 use mathlib.Core.Bool.{Bool, true, false, _&&_, cond}
-use mathlib.Core.List.{List, [], _∷_, foldr}
+use mathlib.Core.List.{List, [], _∷_, foldr, map}
 use mathlib.Core.Logic.{_⊎_, inl, inr, ⊎-elim, ⊎-map}
 use mathlib.Core.Option.{Option, none, some}
 use mathlib.Core.Path.{_≡_, refl, sym, ap, ap₂, _∙_}
 use native.Mathlib.Omega.{arith}
 use lib.Dec.{leb, ltb, eqb}
-use lib.ListN.{length}
+use lib.ListN.{length, length-map}
 use borrow.Author.Tests.{leb-true, leb-false, ltb-false, le-leb, lt-leb, lt-ltb, le-ltb, eq-eqb, ne-eqb}
 use Rattle.model.specs.Common.{sumOf}
 use Rattle.model.specs.Spans.{Span, groupCount, frameCount, holds, adjacent}
 use Rattle.model.specs.Log.{recordCount, records, meeting, aggregated, value}
+use Rattle.model.specs.NoMemory.{plainValue}
 use Rattle.model.specs.Segments.{join, fuse, place, framesFrom, groupsFrom, segmentsOf, segments}
 use Rattle.model.specs.Questions.{ask, mostRecords, mostSegments, fileQuestions}
 use Rattle.model.specs.Calls.{logSegments}
@@ -22,6 +23,7 @@ use Rattle.theory.proofs.Tests.{cases, and-true, true-and, true≢false
 use Rattle.theory.proofs.Sums.{sumOf-le}
 use Rattle.theory.proofs.Refusals.{all-head, all-tail}
 use Rattle.theory.proofs.SlotLaws.{length-listFrom}
+use Rattle.theory.proofs.Memory.{segments-longer, longer, value-one}
 
 -- ---- fused frames, counted
 
@@ -280,10 +282,11 @@ valueOf kind rs g f = aggregated kind (picked (λ r. holds r g f) rs)
 
 module _ (kind : ℕ) (rs : List (Span ℕ)) where
   -- this is a frame's value wherever there is such a group and frame
-  value-within : (g f : ℕ) → g < groupCount → f < frameCount → value kind rs g f ≡ valueOf kind rs g f
-  unfolding value valueOf
+  value-within : (g f : ℕ) → g < groupCount → f < frameCount → value kind 1 rs g f ≡ valueOf kind rs g f
+  unfolding plainValue valueOf
   value-within g f in-groups in-frames =
-      rw (true-and _ _ (lt-ltb g groupCount in-groups) (lt-ltb f frameCount in-frames))
+      value-one kind rs g f
+      ∙ rw (true-and _ _ (lt-ltb g groupCount in-groups) (lt-ltb f frameCount in-frames))
       (ap (aggregated kind) (meeting-picked rs g f))
 
   -- no record, no value
@@ -345,14 +348,17 @@ groupsFrom-cong val val′ frames g (suc count) same =
     ∙ ap (λ l. framesFrom val′ g 0 frames l)
     (groupsFrom-cong val val′ frames (suc g) count (λ h e lt. same h e (omega arith)))
 
--- no segments, or fewer than two for each record
-pub few-segments : (kind : ℕ) (rs : List (Span ℕ))
-    → (length (segments kind rs) ≡ 0) ⊎ (suc (length (segments kind rs)) ≤ 2 * length rs)
+-- no segments, or fewer than two for each record: at width 1, and so at every width
+few-at-one : (kind : ℕ) (rs : List (Span ℕ)) → Few (length (segments kind 1 rs)) (2 * length rs)
 unfolding segments segmentsOf
-few-segments kind rs =
-    rw (groupsFrom-cong (value kind rs) (valueOf kind rs) frameCount 0 groupCount
+few-at-one kind rs =
+    rw (groupsFrom-cong (value kind 1 rs) (valueOf kind rs) frameCount 0 groupCount
     (λ g f a b. value-within kind rs g f (omega arith) b))
     (few-within kind rs groupCount frameCount)
+
+pub few-segments : (kind width : ℕ) (rs : List (Span ℕ)) → Few (length (segments kind width rs)) (2 * length rs)
+few-segments kind width rs =
+    rw (segments-longer kind width rs) (rw (length-map rs (longer width)) at (few-at-one kind (map (longer width) rs)))
 
 -- as many records as are counted
 pub length-records : (log : List ℕ) → length (records log) ≡ recordCount log
@@ -360,12 +366,12 @@ unfolding records
 length-records log = length-listFrom 0 (recordCount log) _
 
 -- an accepted log has at most 255 segments
-pub segment-count : (kind : ℕ) (log : List ℕ) → AllPass (fileQuestions log)
-    → length (logSegments kind log) ≤ mostSegments
+pub segment-count : (kind width : ℕ) (log : List ℕ) → AllPass (fileQuestions log)
+    → length (logSegments kind width log) ≤ mostSegments
 unfolding logSegments fileQuestions ask mostRecords mostSegments
-segment-count kind log all =
+segment-count kind width log all =
     let few = leb-true (recordCount log) 128 (all-head _ _ (all-tail _ _ all)) in
     let count = length-records log in
-    ⊎-elim (λ (e : length (segments kind (records log)) ≡ 0). omega arith)
-    (λ (lt : length (segments kind (records log)) < 2 * length (records log)). omega arith)
-    (few-segments kind (records log))
+    ⊎-elim (λ (e : length (segments kind width (records log)) ≡ 0). omega arith)
+    (λ (lt : length (segments kind width (records log)) < 2 * length (records log)). omega arith)
+    (few-segments kind width (records log))

@@ -18,9 +18,9 @@ use Rattle.model.specs.Split.{mostRows, countFor, Reduced, errorOf, gapBelow}
 use Rattle.model.specs.Reductions.{IsReduction, reductionError}
 use Rattle.model.specs.Windows.{boundIn}
 use Rattle.model.specs.Slot.{slotLength, byBound, byWindows, slotBytes, slotKind, slotCount}
-use Rattle.model.specs.Questions.{withBound, windowRows, ruleQuestion, ruledOrder}
+use Rattle.model.specs.Questions.{queryBy, withBound, windowRows, ruleQuestion, widthQuestions, ruledOrder, askWidth}
 use Rattle.model.specs.Questions.{Question, Outcome, accepted, ask, outcome, lent, kindKnown, boundKnown, mostValue, askRoom, fileQuestions, orderQuestions, queryQuestions, enoughRows, slotQuestions}
-use Rattle.model.specs.Calls.{Counts, Header, logSegments, answerOf, countsOf, queryOutcome, querySlot, readOutcome, readRows}
+use Rattle.model.specs.Calls.{Counts, Header, logSegments, querySegments, answerOf, countsOf, queryOutcome, querySlot, readOutcome, readRows}
 use Rattle.model.specs.Calls.{ruledAnswer, ruledMark, ruledOutcome, ruledSlot}
 use Rattle.model.specs.Calls.{cutsWeighed, queryWeighed, boundOf, letterQuestions, letterOutcome, letterSlot, letterWeighed}
 use Rattle.model.specs.LowerHalves.{lowerReducedTo, lowerAnswer}
@@ -34,7 +34,7 @@ use Rattle.model.specs.declared.Bound.{Bound}
 use Rattle.model.specs.declared.Bound.the-variants.{Rows, Share}
 use Rattle.model.specs.declared.Query.{Query}
 use Rattle.model.specs.declared.RuledQuery.{RuledQuery}
-use Rattle.theory.proofs.Refusals.{all-nil, all-cons, all-head, all-tail, all-append, all-outcome, all-lent, lent-same, outcome-accepted, accepted-query, too-few}
+use Rattle.theory.proofs.Refusals.{all-nil, all-cons, all-head, all-tail, all-right, all-append, all-outcome, all-lent, lent-same, outcome-accepted, accepted-query, too-few}
 use Rattle.theory.proofs.Refusals as refusals
 use Rattle.theory.proofs.Asking.{file-passed}
 use Rattle.theory.proofs.Tests.{cases, is-some}
@@ -65,18 +65,18 @@ demand1 = refusals.demand1
 -- the answer to a query that has enough rows: its number of rows and its cuts
 record Answered (q : Query) (log : List ℕ) : Type 0 where
   rows : ℕ
-  counted : countFor (q .kind) (q .bound) (logSegments (q .kind) log) ≡ some rows
+  counted : countFor (q .kind) (q .bound) (querySegments q log) ≡ some rows
   cuts : List ℕ
-  cut : Cut (q .kind) (logSegments (q .kind) log) (answerOf q log) cuts
-  lowerCut : LowerCut (q .kind) (logSegments (q .kind) log) (lowerAnswer q log) cuts
-  reduces : Reduces (q .kind) (q .bound) (logSegments (q .kind) log) cuts
+  cut : Cut (q .kind) (querySegments q log) (answerOf q log) cuts
+  lowerCut : LowerCut (q .kind) (querySegments q log) (lowerAnswer q log) cuts
+  reduces : Reduces (q .kind) (q .bound) (querySegments q log) cuts
   count : length cuts ≡ rows
 
 answered : (q : Query) (log : List ℕ) → enoughRows q log ≡ true → Answered q log
 unfolding enoughRows logSegments countsOf
 answered q log enough =
-    let (k, h) = is-some (countFor (q .kind) (q .bound) (segments (q .kind) (records log))) enough in
-    let segs : List (Span ℕ) = logSegments (q .kind) log in
+    let (k, h) = is-some (countFor (q .kind) (q .bound) (segments (q .kind) (q .width) (records log))) enough in
+    let segs : List (Span ℕ) = querySegments q log in
     let cuts : List ℕ = cutsTo (q .kind) segs k in
     let (cut, reduces, size) = answer-reduces (q .kind) segs (q .bound) k h in
     let (rows, counts) = same-reduction (q .kind) (q .bound) segs k in
@@ -97,11 +97,11 @@ answered q log enough =
 
 -- it is best
 answer-best : (q : Query) (log : List ℕ) → enoughRows q log ≡ true
-    → BestRows (listsFor (q .kind) log) (q .bound) ((answerOf q log) .error) (map whole ((answerOf q log) .rows))
+    → BestRows (listsFor (q .kind) (q .width) log) (q .bound) ((answerOf q log) .error) (map whole ((answerOf q log) .rows))
 unfolding logSegments
 answer-best q log enough =
     let a = answered q log enough in
-    rw (a .cut .error, a .cut .rows) (best-rows (q .kind) (records log) (q .bound) (a .cuts) (a .reduces))
+    rw (a .cut .error, a .cut .rows) (best-rows (q .kind) (q .width) (records log) (q .bound) (a .cuts) (a .reduces))
 
 is-reduction : (kind : ℕ) (bound : Bound) (segs : List (Span ℕ)) (cuts : List ℕ) → Reduces kind bound segs cuts
     → IsReduction (gapBelow segs) (length segs) cuts
@@ -122,11 +122,11 @@ limit-le (Share p) h = le-refl mostRows
 
 -- rows that are best never fall short
 pub best-never-short : (q : Query) (log : List ℕ) (error : ℕ) (rows : List (Span ℕ))
-    → BestRows (listsFor (q .kind) log) (q .bound) error (map whole rows) → NeverShort q log rows
+    → BestRows (listsFor (q .kind) (q .width) log) (q .bound) error (map whole rows) → NeverShort q log rows
 best-never-short q log error rows best is =
-    never-short (value (q .kind) (records log)) rows
-    (subst (λ kind. FitsFor kind (value (q .kind) (records log)) (map whole rows)) is
-    (fitting (listsFor (q .kind) log) (q .bound) error (map whole rows) best))
+    never-short (value (q .kind) (q .width) (records log)) rows
+    (subst (λ kind. FitsFor kind (value (q .kind) (q .width) (records log)) (map whole rows)) is
+    (fitting (listsFor (q .kind) (q .width) log) (q .bound) error (map whole rows) best))
 
 slot-never-short : (q : Query) (log slot : List ℕ) → BestSlot q log slot → NeverShort q log (readRows slot)
 slot-never-short q log slot b = rw (b .reads .body) (best-never-short q log (b .error) (b .rows) (b .best))
@@ -134,14 +134,14 @@ slot-never-short q log slot b = rw (b .reads .body) (best-never-short q log (b .
 -- ---- what a slot can hold
 
 -- the rows and error of a reduction of a log's segments, by any rule for row values that is in range and has the errors of a kind's
-cut-storable : (rule kind : ℕ) (log cuts : List ℕ) (a : Reduced) {valueOf : List (Span ℕ) → ℕ} {err : ℕ → ℕ → ℕ} → InRange valueOf
-    → err ≡ errorOf rule (logSegments kind log) → kindKnown kind ≡ true → AllPass (fileQuestions log)
-    → CutBy valueOf err (logSegments kind log) a cuts
-    → IsReduction (gapBelow (logSegments kind log)) (length (logSegments kind log)) cuts → length cuts ≤ mostRows
+cut-storable : (rule kind width : ℕ) (log cuts : List ℕ) (a : Reduced) {valueOf : List (Span ℕ) → ℕ} {err : ℕ → ℕ → ℕ} → InRange valueOf
+    → err ≡ errorOf rule (logSegments kind width log) → kindKnown kind ≡ true → AllPass (fileQuestions log)
+    → CutBy valueOf err (logSegments kind width log) a cuts
+    → IsReduction (gapBelow (logSegments kind width log)) (length (logSegments kind width log)) cuts → length cuts ≤ mostRows
     → Storable byBound kind (a .error) (a .rows)
 unfolding logSegments
-cut-storable rule kind log cuts a {valueOf} in-range errs known logged cut is few-cuts =
-    let segs : List (Span ℕ) = logSegments kind log in
+cut-storable rule kind width log cuts a {valueOf} in-range errs known logged cut is few-cuts =
+    let segs : List (Span ℕ) = logSegments kind width log in
     let (few, small) = sound-records log logged in
     let loads : (r : Span ℕ) → List·Memᴰ r (records log) → r .value ≤ 1000 = λ r m. small r m .2 in
     let size = rows-length valueOf (segmentAt segs) (length segs) cuts in
@@ -150,12 +150,12 @@ cut-storable rule kind log cuts a {valueOf} in-range errs known logged cut is fe
       known = known;
       error64 =
           rw (cut .error, errs)
-          (let le = reduction-error-le rule segs (logs-measured kind log logged) (gapBelow segs) (length segs) cuts (le-refl _) is in
+          (let le = reduction-error-le rule segs (logs-measured kind width log logged) (gapBelow segs) (length segs) cuts (le-refl _) is in
           let most = most-error .0 in
           omega arith);
       count = rw (cut .rows) (omega arith);
-      rowsKnown = rw (cut .rows) (rows-known valueOf in-range kind (records log) few loads cuts is);
-      sorted = rw (cut .rows) (rows-sorted valueOf in-range kind (records log) few loads cuts is);
+      rowsKnown = rw (cut .rows) (rows-known valueOf in-range kind width (records log) few loads cuts is);
+      sorted = rw (cut .rows) (rows-sorted valueOf in-range kind width (records log) few loads cuts is);
     }
 
 -- ---- what the slot of an accepted query holds
@@ -165,7 +165,7 @@ module _ (q : Query) (log slot : List ℕ) (counts : Counts) (ok : queryOutcome 
   a = answered q log (accepted-query q log (length slot) counts ok .2)
 
   abbrev segs : List (Span ℕ)
-  segs = logSegments (q .kind) log
+  segs = querySegments q log
 
   slot-written : querySlot q log slot
       ≡ slotBytes byBound (q .kind) ((answerOf q log) .error) ((answerOf q log) .rows) ++ drop slotLength slot
@@ -176,11 +176,11 @@ module _ (q : Query) (log slot : List ℕ) (counts : Counts) (ok : queryOutcome 
   unfolding orderQuestions logSegments ask
   storable =
       let (room, order, enough, same) = accepted-query q log (length slot) counts ok in
-      let logged = file-passed log (all-tail _ _ (all-tail _ _ order)) in
+      let logged = file-passed log (all-tail _ _ (all-tail _ _ (all-tail _ _ order))) in
       let limit = limit-le (q .bound) (all-head _ _ (all-tail _ _ order)) in
-      let at-most = count-le (q .kind) (records log) (q .bound) (a .rows) (a .counted) in
+      let at-most = count-le (q .kind) (q .width) (records log) (q .bound) (a .rows) (a .counted) in
       let counted = a .count in
-      cut-storable (q .kind) (q .kind) log (a .cuts) (answerOf q log) (row-le (q .kind) mostValue) refl (all-head _ _ order) logged (a .cut)
+      cut-storable (q .kind) (q .kind) (q .width) log (a .cuts) (answerOf q log) (row-le (q .kind) mostValue) refl (all-head _ _ order) logged (a .cut)
       (is-reduction (q .kind) (q .bound) segs (a .cuts) (a .reduces)) (omega arith)
 
   pub reads-back : Reads (querySlot q log slot) byBound (q .kind) ((answerOf q log) .error) ((answerOf q log) .rows)
@@ -215,7 +215,7 @@ module _ (q : RuledQuery) (windowed : boundIn (q .rule) ≡ none) (log slot : Li
         known = all-head _ _ order;
         error64 = omega arith;
         count = few;
-        rowsKnown = window-rows-known q log windowed passes (file-passed log (all-tail _ _ (all-tail _ _ order)));
+        rowsKnown = window-rows-known q log windowed passes (file-passed log (all-right (widthQuestions q) _ (all-tail _ _ (all-tail _ _ order))));
         sorted = window-rows-sorted q log windowed passes;
       }
 
@@ -237,11 +237,11 @@ pub demand2 : Demand2
 unfolding logSegments gapBelow
 demand2 =
     record {
-      segmentation = λ kind log. segmentation kind (records log);
+      segmentation = λ kind width log. segmentation kind width (records log);
       count = segment-count;
       mean = mean;
       conserved = conserved;
-      merging = λ kind log. merging (segmentAt (logSegments kind log)) (length (logSegments kind log));
+      merging = λ kind width log. merging (segmentAt (logSegments kind width log)) (length (logSegments kind width log));
       least = row-least;
       between = row-between;
       greatest = λ b s m. row-above greatestKind b s m refl;
@@ -253,7 +253,7 @@ demand2 =
       written = reads-back;
       roundTrip = round-trip;
       stillRead = λ rule kind log cuts rest r known logged cut is few.
-          round-trip byBound kind (r .error) (r .rows) rest (cut-storable rule kind log cuts r (lower-in-range rule) (sym (same-errors rule (logSegments kind log))) known logged cut is few);
+          round-trip byBound kind (r .error) (r .rows) rest (cut-storable rule kind 1 log cuts r (lower-in-range rule) (sym (same-errors rule (logSegments kind 1 log))) known logged cut is few);
       layout = layout;
       windows = λ q log windowed passed rows.
           (only q log windowed passed rows, λ e. subst (SpanAggregation q log) (sym e) (aggregation q log windowed passed));
@@ -271,7 +271,7 @@ halves-up =
       sameCuts = λ q log room counts ok.
           let (fits, order, enough, same) = accepted-query q log room counts ok in
           let found = answered q log enough in
-          let segs : List (Span ℕ) = logSegments (q .kind) log in (
+          let segs : List (Span ℕ) = querySegments q log in (
             found .cuts,
             found .cut,
             found .lowerCut,
@@ -288,10 +288,10 @@ demand3 =
       neverShort = λ q log slot counts ok. slot-never-short q log _ (best q log slot counts ok);
       tooFew = λ q log slot fits order.
           let (said, says) = too-few q log (length slot) order fits in
-          let (refuses, none-fits) = too-few-rows (q .kind) (records log) (q .bound) in
+          let (refuses, none-fits) = too-few-rows (q .kind) (q .width) (records log) (q .bound) in
           ((λ h. refuses (said h)), λ h. says (none-fits h));
       uncovered = nothing-fits;
-      oneLeast = λ kind log. only-least kind (records log);
+      oneLeast = λ kind width log. only-least kind width (records log);
     }
 
 -- ---- a slot against its log
@@ -303,36 +303,38 @@ best-error choices (Share p) error a b = b .hasError
 
 -- every slot that a query by a bound writes passes with its log
 written-passes : (q : Query) (log slot : List ℕ) (counts : Counts) → queryOutcome q log (length slot) ≡ accepted counts
-    → checkOutcome log (querySlot q log slot) ≡ accepted tt
-unfolding orderQuestions
+    → checkOutcome (q .width) log (querySlot q log slot) ≡ accepted tt
+unfolding orderQuestions askWidth ask
 written-passes q log slot counts ok =
     let b = best q log slot counts ok in
-    let lists = listsFor (q .kind) log in
-    agrees-accepted log (querySlot q log slot)
+    let lists = listsFor (q .kind) (q .width) log in
+    let asked = all-tail _ _ (all-tail _ _ (accepted-query q log (length slot) counts ok .1)) in
+    agrees-accepted (q .width) log (querySlot q log slot)
     (record {
       kind = q .kind;
       error = b .error;
       rows = b .rows;
-      logPasses = all-tail _ _ (all-tail _ _ (accepted-query q log (length slot) counts ok .1));
+      known = all-head _ _ asked;
+      logPasses = all-tail _ _ asked;
       reads = b .reads;
       fits = fitting lists (q .bound) (b .error) (map whole (b .rows)) (b .best);
       hasError = best-error lists (q .bound) (b .error) (map whole (b .rows)) (b .best);
     })
 
 -- the tool's own answer for as many rows is at least as good as a slot that agrees with its log
-no-better : (log slot : List ℕ) → Agrees log slot → (room : ℕ) → slotLength ≤ room → NoBetter log slot room
-unfolding queryOutcome queryQuestions orderQuestions readOutcome slotQuestions enoughRows askRoom ask countsOf boundKnown
-no-better log slot found room long =
-    let q : Query = record { kind = found .kind; bound = Rows (length (found .rows)) } in
+no-better : (width : ℕ) (log slot : List ℕ) → Agrees width log slot → (room : ℕ) → slotLength ≤ room → NoBetter width log slot room
+unfolding queryOutcome queryQuestions orderQuestions readOutcome slotQuestions enoughRows askRoom askWidth ask countsOf boundKnown
+no-better width log slot found room long =
+    let q : Query = queryBy (found .kind) (Rows (length (found .rows))) width in
     let (read, header) = outcome-accepted (slotQuestions slot) _ _ (found .reads .header) in
     let count : length (found .rows) ≡ slotCount slot = ap (λ (h : Header). h .rows) header in
     let kind : found .kind ≡ slotKind slot = ap (λ (h : Header). h .kind) header in
     let few : leb (length (found .rows)) mostRows ≡ true = rw count (all-head _ _ (all-tail _ _ (all-tail _ _ (all-tail _ _ read)))) in
     let known : kindKnown (found .kind) ≡ true = rw kind (all-head _ _ (all-tail _ _ (all-tail _ _ read))) in
-    let order : AllPass (orderQuestions q log) = all-cons _ _ known (all-cons _ _ few (found .logPasses)) in
+    let order : AllPass (orderQuestions q log) = all-cons _ _ known (all-cons _ _ few (all-cons _ _ (found .known) (found .logPasses))) in
     let enough : enoughRows q log ≡ true =
     cases (enoughRows q log) (λ t. t)
-    (λ t. absurd (too-few-rows (found .kind) (records log) (q .bound) .0 t (map whole (found .rows)) (found .fits) (omega (arith, length-map (found .rows) whole)))) in
+    (λ t. absurd (too-few-rows (found .kind) width (records log) (q .bound) .0 t (map whole (found .rows)) (found .fits) (omega (arith, length-map (found .rows) whole)))) in
     let answer = answer-best q log enough in
     record {
       kind = found .kind;
@@ -351,10 +353,10 @@ no-better log slot found room long =
 pub slot-against-log : SlotAgainstLog
 slot-against-log =
     record {
-      exactly = λ log slot small. (accepted-agrees log slot small, agrees-accepted log slot);
+      exactly = λ width log slot small. (accepted-agrees width log slot small, agrees-accepted width log slot);
       whateverFits = whatever-fits;
       written = written-passes;
-      noBetter = λ log slot small e. no-better log slot (accepted-agrees log slot small e);
+      noBetter = λ width log slot small e. no-better width log slot (accepted-agrees width log slot small e);
       notByWindows = not-by-windows;
       anyOrder = check-any-order;
     }
@@ -383,13 +385,13 @@ query-promise q log slot says after answers holds =
     }
 
 -- a call that answers a check so keeps its promise
-pub check-promise : (log slot : List ℕ) → Bytes slot → (says : Outcome (Unit {0})) → says ≡ checkOutcome log slot
-    → CheckPromise log slot says
-check-promise log slot small says answers =
+pub check-promise : (width : ℕ) (log slot : List ℕ) → Bytes slot → (says : Outcome (Unit {0})) → says ≡ checkOutcome width log slot
+    → CheckPromise width log slot says
+check-promise width log slot small says answers =
     record {
-      exactly = rw answers (slot-against-log .exactly log slot small);
-      noBetter = λ e. slot-against-log .noBetter log slot small (sym answers ∙ e);
-      anyOrder = λ other both. answers ∙ check-any-order log other slot both;
+      exactly = rw answers (slot-against-log .exactly width log slot small);
+      noBetter = λ e. slot-against-log .noBetter width log slot small (sym answers ∙ e);
+      anyOrder = λ other both. answers ∙ check-any-order width log other slot both;
     }
 
 -- and the same of a query by a rule
@@ -410,20 +412,20 @@ ruled-promise q log slot says after answers holds =
     }
 
 -- and the same of a query by letter
-pub letter-promise : (kind letter x : ℕ) (log slot : List ℕ) (says : Outcome Counts) (after : List ℕ)
-    → says ≡ letterOutcome kind letter x log (length slot) → after ≡ letterSlot kind letter x log slot
-    → LetterPromise kind letter x log slot says after
+pub letter-promise : (kind letter x width : ℕ) (log slot : List ℕ) (says : Outcome Counts) (after : List ℕ)
+    → says ≡ letterOutcome kind letter x width log (length slot) → after ≡ letterSlot kind letter x width log slot
+    → LetterPromise kind letter x width log slot says after
 unfolding letterOutcome letterSlot letterWeighed
-letter-promise kind letter x log slot says after answers holds =
+letter-promise kind letter x width log slot says after answers holds =
     record { weighed = by (boundOf letter x) refl; named = named; anyOrder = λ other both. order other both (boundOf letter x) refl }
   where
     named : (bound : Bound) → boundOf letter x ≡ some bound
-        → QueryPromise (record { kind = kind; bound = bound }) log slot says after
+        → QueryPromise (queryBy kind bound width) log slot says after
     named bound e =
-        query-promise (record { kind = kind; bound = bound }) log slot says after
+        query-promise (queryBy kind bound width) log slot says after
         (answers ∙ rw (e, letterOutcome)) (holds ∙ rw (e, letterSlot))
 
-    by : (o : Option Bound) → boundOf letter x ≡ o → cutsWeighed says ≡ letterWeighed kind letter x log (length slot)
+    by : (o : Option Bound) → boundOf letter x ≡ o → cutsWeighed says ≡ letterWeighed kind letter x width log (length slot)
     by none e =
         let none-given : Counts = record { rows = 0; error = 0; weighed = 0 } in
         let asked : says ≡ outcome (letterQuestions kind (length slot)) none-given = answers ∙ rw (e, letterOutcome) in
@@ -434,7 +436,7 @@ letter-promise kind letter x log slot says after answers holds =
 
     -- no letter but those of bounds asks for the log
     order : (other : List ℕ) → Shuffled log other → (o : Option Bound) → boundOf letter x ≡ o
-        → (says ≡ letterOutcome kind letter x other (length slot)) × (after ≡ letterSlot kind letter x other slot)
+        → (says ≡ letterOutcome kind letter x width other (length slot)) × (after ≡ letterSlot kind letter x width other slot)
     order other both none e = (answers ∙ rw (e, letterOutcome), holds ∙ rw (e, letterSlot))
     order other both (some bound) e =
         let (answer, left) = named bound e .anyOrder other both in (rw (e, letterOutcome) answer, rw (e, letterSlot) left)

@@ -17,8 +17,8 @@ use Rattle.model.specs.Segments.{framesFrom, groupsFrom, segmentsOf}
 use Rattle.model.specs.Blocks.{runsTo, empty, totals, nearest, valueFor, rowValue, errorWith, blockError}
 use Rattle.model.specs.Split.{cell, least, weighed, cutsOf, rowsOf, fewest, within, firstThat, chosen, rowsTried, errorOf, gapBelow, runs, leastOf, countFor, reducedTo, reduced}
 use Rattle.model.specs.Slot.{slotLength, valueIn}
-use Rattle.model.specs.Questions.{accepted, ask, askRoom, kindKnown, boundKnown, each, outcome, mostRecords, logQuestions, orderQuestions, queryQuestions, enoughRows}
-use Rattle.model.specs.Calls.{logSegments, answerOf, countsOf, queryOutcome}
+use Rattle.model.specs.Questions.{accepted, ask, askRoom, kindKnown, boundKnown, each, outcome, mostRecords, logQuestions, orderQuestions, queryQuestions, enoughRows, askWidth, widthKnown}
+use Rattle.model.specs.Calls.{logSegments, answerOf, countsOf, queryOutcome, querySegments}
 use Rattle.model.specs.Fitting.{hits, due, FitsFor}
 use Rattle.model.specs.declared.Bound.{Bound}
 use Rattle.model.specs.declared.Bound.the-variants.{Rows, Share}
@@ -53,9 +53,9 @@ nothing-fits kind val blank (r ∷ rows) = (
 
 -- ---- the empty log
 
-no-segments : (kind : ℕ) → logSegments kind [] ≡ []
+no-segments : (kind width : ℕ) → logSegments kind width [] ≡ []
 unfolding logSegments records recordCount recordLength listFrom horizon frameCount segmentsOf groupsFrom groupCount framesFrom
-no-segments kind = short-page kind [] refl
+no-segments kind width = short-page kind width [] refl
 
 -- 0 rows answer every bound
 no-rows : (kind : ℕ) (bound : Bound) → countFor kind bound [] ≡ some 0
@@ -75,14 +75,15 @@ no-cuts kind bound =
 
 -- the empty log gives 0 rows and error 0
 pub empty-log : (q : Query) (room : ℕ) → slotLength ≤ room → kindKnown (q .kind) ≡ true → boundKnown (q .bound) ≡ true
+    → widthKnown (q .width) ≡ true
     → (answerOf q [] ≡ record { rows = []; error = 0; weighed = 0 })
     × (queryOutcome q [] room ≡ accepted (record { rows = 0; error = 0; weighed = 0 }))
-unfolding answerOf queryOutcome queryQuestions orderQuestions logQuestions enoughRows recordCount recordLength each mostRecords logSegments askRoom ask outcome isSome countsOf
-empty-log q room fits kind bound =
-    let none-found : logSegments (q .kind) [] ≡ [] = no-segments (q .kind) in
-    let is : countFor (q .kind) (q .bound) (logSegments (q .kind) []) ≡ some 0 =
+unfolding answerOf queryOutcome queryQuestions orderQuestions logQuestions enoughRows recordCount recordLength each mostRecords logSegments askRoom ask askWidth outcome isSome countsOf
+empty-log q room fits kind bound width =
+    let none-found : querySegments q [] ≡ [] = no-segments (q .kind) (q .width) in
+    let is : countFor (q .kind) (q .bound) (querySegments q []) ≡ some 0 =
     ap (countFor (q .kind) (q .bound)) none-found ∙ no-rows (q .kind) (q .bound) in
     let answer : answerOf q [] ≡ record { rows = []; error = 0; weighed = 0 } =
     ap (λ o. Option·getD o (record { rows = []; error = 0; weighed = 0 }))
     (ap (reduced (q .kind) (q .bound)) none-found ∙ no-cuts (q .kind) (q .bound)) in
-    (answer, rw (le-leb slotLength room fits, kind, bound, is) (ap (λ a. accepted (countsOf a)) answer))
+    (answer, rw (le-leb slotLength room fits, kind, bound, width, is) (ap (λ a. accepted (countsOf a)) answer))

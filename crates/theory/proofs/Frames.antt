@@ -464,23 +464,23 @@ module _ {A : Type 0} (same : A → A → Bool) (same-eq : (v w : A) → same v 
 -- ---- the tool's segments
 
 -- a frame that has a value is a frame of a group
-pub value-inside : (kind : ℕ) (rs : List (Span ℕ)) (g f v : ℕ) → value kind rs g f ≡ some v
+pub value-inside : (kind width : ℕ) (rs : List (Span ℕ)) (g f v : ℕ) → value kind width rs g f ≡ some v
     → (g < groupCount) × (f < frameCount)
 unfolding value
-value-inside kind rs g f v e =
+value-inside kind width rs g f v e =
     cases (ltb g groupCount && ltb f frameCount)
     (λ t. let both = and-true (ltb g groupCount) (ltb f frameCount) t in (ltb-true _ _ (both .0), ltb-true _ _ (both .1)))
     (λ t. let z : _≡_ {A = ℕ} 0 1 = cc (rw t at e) in absurd (omega arith))
 
 -- the segments of a log's records are its longest stretches
-pub segmentation : (kind : ℕ) (rs : List (Span ℕ)) → Segmentation (value kind rs) (segments kind rs)
+pub segmentation : (kind width : ℕ) (rs : List (Span ℕ)) → Segmentation (value kind width rs) (segments kind width rs)
 unfolding segments segmentAt
-segmentation kind rs =
+segmentation kind width rs =
     record {
-      ordered = λ s m. ordered eqb eqb-true (value kind rs) groupCount frameCount (value-inside kind rs) s m .0;
-      constant = constant eqb eqb-true (value kind rs) groupCount frameCount (value-inside kind rs);
-      exact = exact eqb eqb-true (value kind rs) groupCount frameCount (value-inside kind rs);
-      sorted = sorted eqb eqb-true (value kind rs) groupCount frameCount (value-inside kind rs) nowhere;
-      longest = longest eqb eqb-true (value kind rs) groupCount frameCount (value-inside kind rs) eqb-false;
-      differ = differ eqb eqb-true (value kind rs) groupCount frameCount (value-inside kind rs) eqb-false nowhere;
+      ordered = λ s m. ordered eqb eqb-true (value kind width rs) groupCount frameCount (value-inside kind width rs) s m .0;
+      constant = constant eqb eqb-true (value kind width rs) groupCount frameCount (value-inside kind width rs);
+      exact = exact eqb eqb-true (value kind width rs) groupCount frameCount (value-inside kind width rs);
+      sorted = sorted eqb eqb-true (value kind width rs) groupCount frameCount (value-inside kind width rs) nowhere;
+      longest = longest eqb eqb-true (value kind width rs) groupCount frameCount (value-inside kind width rs) eqb-false;
+      differ = differ eqb eqb-true (value kind width rs) groupCount frameCount (value-inside kind width rs) eqb-false nowhere;
     }

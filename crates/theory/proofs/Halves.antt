@@ -17,7 +17,7 @@ use Rattle.model.specs.Log.{greatestKind}
 use Rattle.model.specs.Blocks.{segmentAt, block, totals, nearest, valueFor, rowValue, errorWith, blockError, rowOf}
 use Rattle.model.specs.Split.{least, cutsOf, rowsOf, chosen, errorOf, gapBelow, runs, leastOf, countFor, reducedTo, reduced}
 use Rattle.model.specs.Questions.{mostValue, queryQuestions, enoughRows}
-use Rattle.model.specs.Calls.{countsOf, logSegments, answerOf, queryOutcome}
+use Rattle.model.specs.Calls.{countsOf, logSegments, answerOf, queryOutcome, querySegments}
 use Rattle.model.specs.LowerHalves.{lowerNearest, lowerValue, lowerError, lowerErrorOf, lowerLeastOf, lowerCountFor, lowerReducedTo, lowerReduced, lowerAnswer, lowerOutcome}
 use Rattle.model.specs.Demands.{HalfAbove, Risen, AllRisen}
 use Rattle.model.specs.declared.Bound.{Bound}
@@ -202,7 +202,7 @@ risen-rows kind segs i (j ∷ js) =
 
 module _ (q : Query) (log : List ℕ) where
   abbrev segs : List (Span ℕ)
-  segs = logSegments (q .kind) log
+  segs = querySegments q log
 
   pub answers-are : (k : ℕ) → countFor (q .kind) (q .bound) segs ≡ some k
       → (answerOf q log ≡ reducedTo (q .kind) (q .bound) segs k) × (lowerAnswer q log ≡ lowerReducedTo (q .kind) (q .bound) segs k)

@@ -5,6 +5,7 @@ pub mod Numbers
 pub mod Refusals
 pub mod SlotLaws
 pub mod Frames
+pub mod Memory
 pub mod Count
 pub mod Cost
 pub mod Blocks
@@ -33,6 +34,7 @@ pub mod Answer
 pub mod Check
 pub mod Halves
 pub mod Empty
+pub mod Remembered
 pub mod Demands
 pub mod Conserved
 pub mod Pages

@@ -1,8 +1,8 @@
 -- Any order of the log: the aggregate over the records that meet a stretch of frames does not see their order, whatever the kind. A
 -- log that has passed its questions is asked for nothing else, so that no call sees the order. Assumes nothing.
-use Prim.Native.Nat.{ℕ, zero, suc, _+_, _*_, _/_, _≤_, _<_, min, max}
+use Prim.Native.Nat.{ℕ, zero, suc, _+_, _-_, _*_, _/_, _≤_, _<_, min, max}
 use mathlib.Core.Bool.{true, _&&_, cond}
-use mathlib.Core.List.{List, [], _∷_, _++_, append-nil, map, List·Memᴰ}
+use mathlib.Core.List.{List, [], _∷_, _++_, append-nil, map, List·Memᴰ, append-assoc}
 use mathlib.Core.List.{List·Permᴰ, List·Permᴰ·nil, List·Permᴰ·cons, List·Permᴰ·swap, List·Permᴰ·trans, Permᴰ·refl, Permᴰ·symm, Permᴰ·map}
 use mathlib.Core.Logic.{inl, inr}
 use mathlib.Core.Option.{Option, none, some}
@@ -19,7 +19,7 @@ use Rattle.model.specs.Log.{recordLength, recordAt, recordCount, records, recor
 use Rattle.model.specs.Segments.{segmentsOf, segments}
 use Rattle.model.specs.Windows.{boundIn, Window, windows, windowRow, groupRows, spanRows}
 use Rattle.model.specs.Slot.{slotLength, slotBytes}
-use Rattle.model.specs.Questions.{Question, Outcome, refused, accepted, ask, askRoom, outcome, lent, kindKnown, logQuestions, mostSegments, segmentsQuestions, enoughRows}
+use Rattle.model.specs.Questions.{Question, Outcome, refused, accepted, ask, askRoom, outcome, lent, kindKnown, logQuestions, mostSegments, segmentsQuestions, enoughRows, askWidth, widthQuestions}
 use Rattle.model.specs.Questions.{withBound, windowRows, ruleQuestion, rowsQuestion, ruledOrder, ruledQuestions}
 use Rattle.model.specs.Calls.{segmentOf, logSegments, segmentsOutcome, filledList, Counts, answerOf, countsOf, queryOutcome, querySlot}
 use Rattle.model.specs.Calls.{boundedQuery, ruledAnswer, ruledMark, ruledOutcome, ruledSlot}
@@ -29,7 +29,7 @@ use Rattle.model.specs.declared.Query.{Query}
 use Rattle.model.specs.declared.RuledQuery.{RuledQuery}
 use Rattle.model.specs.declared.Segment.{Segment}
 use Rattle.theory.proofs.Tests.{cases}
-use Rattle.theory.proofs.Refusals.{all-cons, outcome-accepted, outcome-behind, all-lent, lent-behind}
+use Rattle.theory.proofs.Refusals.{all-cons, outcome-accepted, outcome-behind, all-lent, lent-behind, all-append}
 use Rattle.theory.proofs.Converse.{member-listFrom}
 use Rattle.theory.proofs.SlotLaws.{member-at, length-listFrom, listFrom-of, long-slotBytes}
 use Rattle.theory.proofs.Lists.{listFrom-cong, map-listFrom}
@@ -111,13 +111,13 @@ module _ (kind : ℕ) {rs ss : List (Span ℕ)} (same : List·Permᴰ rs ss) whe
   stretch-order : (g a b : ℕ) → aggregated kind (meeting rs g a b) ≡ aggregated kind (meeting ss g a b)
   stretch-order g a b = aggregated-order kind (meeting-order g a b same)
 
-  pub value-order : value kind rs ≡ value kind ss
+  pub value-order : (width : ℕ) → value kind width rs ≡ value kind width ss
   unfolding value
-  value-order i g f = cond (ltb g groupCount && ltb f frameCount) (stretch-order g f f i) none
+  value-order width i g f = cond (ltb g groupCount && ltb f frameCount) (stretch-order g (f - (width - 1)) f i) none
 
-  pub segments-order : segments kind rs ≡ segments kind ss
+  pub segments-order : (width : ℕ) → segments kind width rs ≡ segments kind width ss
   unfolding segments
-  segments-order = ap (λ val. segmentsOf eqb val groupCount frameCount) value-order
+  segments-order width = ap (λ val. segmentsOf eqb val groupCount frameCount) (value-order width)
 
   window-order : (g : ℕ) (w : Window) → windowRow kind rs g w ≡ windowRow kind ss g w
   unfolding windowRow
@@ -130,17 +130,17 @@ module _ (kind : ℕ) {rs ss : List (Span ℕ)} (same : List·Permᴰ rs ss) whe
 -- ---- the calls
 
 module _ {log other : List ℕ} (both : Shuffled log other) where
-  pub log-segments-order : (kind : ℕ) → logSegments kind log ≡ logSegments kind other
+  pub log-segments-order : (kind width : ℕ) → logSegments kind width log ≡ logSegments kind width other
   unfolding logSegments
-  log-segments-order kind = segments-order kind (both .sameRecords)
+  log-segments-order kind width = segments-order kind (both .sameRecords) width
 
   answer-order : (q : Query) → answerOf q log ≡ answerOf q other
   unfolding answerOf
-  answer-order q = rw (log-segments-order (q .kind))
+  answer-order q = rw (log-segments-order (q .kind) (q .width))
 
   enough-order : (q : Query) → enoughRows q log ≡ enoughRows q other
   unfolding enoughRows
-  enough-order q = rw (segments-order (q .kind) (both .sameRecords))
+  enough-order q = rw (segments-order (q .kind) (both .sameRecords) (q .width))
 
   window-rows-order : (q : RuledQuery) → windowRows q log ≡ windowRows q other
   unfolding windowRows
@@ -174,35 +174,38 @@ module _ {log other : List ℕ} (both : Shuffled log other) where
   lent-order (p ∷ before) rest given kept = ap (λ o. cond (p .passed) o kept) (lent-order before rest given kept)
 
   -- the segment call
-  segments-outcome-order : (kind room : ℕ) → segmentsOutcome kind log room ≡ segmentsOutcome kind other room
+  segments-outcome-order : (kind width room : ℕ) → segmentsOutcome kind width log room ≡ segmentsOutcome kind width other room
   unfolding segmentsOutcome segmentsQuestions
-  segments-outcome-order kind room =
-      rw (log-segments-order kind)
-      (rw (append-nil (logQuestions log), append-nil (logQuestions other)) at (outcome-order (askRoom mostSegments room ∷ ask 2 0 (kindKnown kind) ∷ []) [] (length (logSegments kind other))))
-
-  list-order : (kind : ℕ) (list : List Segment) → filledList kind log list ≡ filledList kind other list
-  unfolding filledList segmentsQuestions
-  list-order kind list =
-      rw (log-segments-order kind)
+  segments-outcome-order kind width room =
+      rw (log-segments-order kind width)
       (rw (append-nil (logQuestions log), append-nil (logQuestions other)) at
-      (lent-order (askRoom mostSegments (length list) ∷ ask 2 0 (kindKnown kind) ∷ []) []
-      (map segmentOf (logSegments kind other) ++ drop (length (logSegments kind other)) list) list))
+      (outcome-order (askRoom mostSegments room ∷ ask 2 0 (kindKnown kind) ∷ askWidth width ∷ []) [] (length (logSegments kind width other))))
+
+  list-order : (kind width : ℕ) (list : List Segment) → filledList kind width log list ≡ filledList kind width other list
+  unfolding filledList segmentsQuestions
+  list-order kind width list =
+      rw (log-segments-order kind width)
+      (rw (append-nil (logQuestions log), append-nil (logQuestions other)) at
+      (lent-order (askRoom mostSegments (length list) ∷ ask 2 0 (kindKnown kind) ∷ askWidth width ∷ []) []
+      (map segmentOf (logSegments kind width other) ++ drop (length (logSegments kind width other)) list) list))
 
   -- a query by a rule
   abbrev ahead : RuledQuery → ℕ → List Question
-  ahead q room = askRoom slotLength room ∷ ask 2 0 (kindKnown (q .kind)) ∷ ruleQuestion q ∷ []
+  ahead q room = askRoom slotLength room ∷ ask 2 0 (kindKnown (q .kind)) ∷ ruleQuestion q ∷ widthQuestions q
 
   ruled-outcome-order : (q : RuledQuery) (room : ℕ) → ruledOutcome q log room ≡ ruledOutcome q other room
   unfolding ruledOutcome ruledQuestions ruledOrder
   ruled-outcome-order q room =
       let (answer, decides) = ruled-order q in
-      rw (answer, decides) (outcome-order (ahead q room) (rowsQuestion q other ∷ []) (countsOf (ruledAnswer q other)))
+      rw (answer, decides, append-assoc (widthQuestions q) (logQuestions log), append-assoc (widthQuestions q) (logQuestions other))
+      (outcome-order (ahead q room) (rowsQuestion q other ∷ []) (countsOf (ruledAnswer q other)))
 
   ruled-slot-order : (q : RuledQuery) (slot : List ℕ) → ruledSlot q log slot ≡ ruledSlot q other slot
   unfolding ruledSlot ruledQuestions ruledOrder
   ruled-slot-order q slot =
       let (answer, decides) = ruled-order q in
-      rw (answer, decides) (lent-order (ahead q (length slot)) (rowsQuestion q other ∷ []) _ slot)
+      rw (answer, decides, append-assoc (widthQuestions q) (logQuestions log), append-assoc (widthQuestions q) (logQuestions other))
+      (lent-order (ahead q (length slot)) (rowsQuestion q other ∷ []) _ slot)
 
   -- by a bound
   query-outcome-order : (q : Query) (room : ℕ) → queryOutcome q log room ≡ queryOutcome q other room
@@ -230,16 +233,17 @@ first-bytes q log slot counts ok =
     ∙ take-append-le slotLength _ (drop slotLength slot) (long-slotBytes (ruledMark q) (q .kind) _ _)
 
 same-answer : (q : RuledQuery) (log other slot otherSlot : List ℕ) → Shuffled log other
-    → kindKnown (q .kind) ≡ true → (ruleQuestion q) .passed ≡ true → slotLength ≤ length slot → slotLength ≤ length otherSlot
+    → kindKnown (q .kind) ≡ true → (ruleQuestion q) .passed ≡ true → AllPass (widthQuestions q)
+    → slotLength ≤ length slot → slotLength ≤ length otherSlot
     → SameAnswer (ruledOutcome q log (length slot)) (ruledSlot q log slot)
     (ruledOutcome q other (length otherSlot)) (ruledSlot q other otherSlot)
 unfolding ruledOrder ask outcome
-same-answer q log other slot otherSlot both known in-order long long-too =
+same-answer q log other slot otherSlot both known in-order wide long long-too =
     let (answer, decides) = ruled-order both q in
     let counts : Counts = countsOf (ruledAnswer q log) in
-    let here = rows-decide q log (length slot) long (all-cons _ _ known (all-cons _ _ in-order (both .passes))) in
+    let here = rows-decide q log (length slot) long (all-cons _ _ known (all-cons _ _ in-order (all-append (widthQuestions q) _ wide (both .passes)))) in
     let there : ruledOutcome q other (length otherSlot) ≡ outcome (rowsQuestion q log ∷ []) counts
-    = rows-decide q other (length otherSlot) long-too (all-cons _ _ known (all-cons _ _ in-order (both .otherPasses))) ∙ rw (answer, decides) in
+    = rows-decide q other (length otherSlot) long-too (all-cons _ _ known (all-cons _ _ in-order (all-append (widthQuestions q) _ wide (both .otherPasses)))) ∙ rw (answer, decides) in
     let (number, index) = rows-number q log in
     cases ((rowsQuestion q log) .passed)
     (λ t.
@@ -250,11 +254,13 @@ same-answer q log other slot otherSlot both known in-order long long-too =
 
 -- ---- what the calls promise
 
-pub segments-any-order : (kind : ℕ) (log : List ℕ) (list : List Segment) (says : Outcome ℕ) (after : List Segment)
-    → says ≡ segmentsOutcome kind log (length list) → after ≡ filledList kind log list → SegmentsPromise kind log list says after
-segments-any-order kind log list says after answers holds =
+pub segments-any-order : (kind width : ℕ) (log : List ℕ) (list : List Segment) (says : Outcome ℕ) (after : List Segment)
+    → says ≡ segmentsOutcome kind width log (length list) → after ≡ filledList kind width log list
+    → SegmentsPromise kind width log list says after
+segments-any-order kind width log list says after answers holds =
     record {
-      anyOrder = λ other both. (answers ∙ segments-outcome-order both kind (length list), holds ∙ list-order both kind list);
+      anyOrder = λ other both.
+          (answers ∙ segments-outcome-order both kind width (length list), holds ∙ list-order both kind width list);
     }
 
 pub query-any-order : (q : Query) (log slot : List ℕ) (says : Outcome Counts) (after : List ℕ)
@@ -338,6 +344,6 @@ any-order =
         λ same. each-in-the-other (records log) (records other) (records-once log small all) (records-once other small-too all-too) same,
       );
       anyShuffle = any-shuffle;
-      segments = λ kind log other both. log-segments-order both kind;
+      segments = λ kind width log other both. log-segments-order both kind width;
       query = same-answer;
     }

@@ -99,29 +99,29 @@ module _ {A : Type 0} (val : ℕ → ℕ → Option A) (groups frames : ℕ)
             ];
       }
 
--- the squared error is that of the frames up to the log's greatest last frame
-pub page-error : (kind : ℕ) (rs : List (Span ℕ)) (rows : List (Span ℤ)) → leb (horizon rs) frameCount ≡ true
-    → squaredError (value kind rs) rows
-    ≡ overFrames groupCount (horizon rs) (λ g f. frameCost squared (value kind rs g f) (valueIn rows g f))
+-- the squared error is that of the frames up to the last that has some record in its memory
+pub page-error : (kind width : ℕ) (rs : List (Span ℕ)) (rows : List (Span ℤ)) → leb (horizon width rs) frameCount ≡ true
+    → squaredError (value kind width rs) rows
+    ≡ overFrames groupCount (horizon width rs) (λ g f. frameCost squared (value kind width rs g f) (valueIn rows g f))
 unfolding squaredError overFrames frameCost
-page-error kind rs rows h =
-    let fits = leb-true (horizon rs) frameCount h in
-    let parts : frameCount ≡ horizon rs + (frameCount - horizon rs) = omega arith in
+page-error kind width rs rows h =
+    let fits = leb-true (horizon width rs) frameCount h in
+    let parts : frameCount ≡ horizon width rs + (frameCount - horizon width rs) = omega arith in
     sumFrom-cong 0 groupCount _ _
     (λ g a b.
-    let cost : ℕ → ℕ = λ f. frameCost squared (value kind rs g f) (valueIn rows g f) in
-    let cut = sumFrom-append 0 (horizon rs) (frameCount - horizon rs) cost in
-    let none-left : sumFrom (0 + horizon rs) (frameCount - horizon rs) cost ≡ 0 =
-    sumFrom-zero (0 + horizon rs) (frameCount - horizon rs) cost (λ f c d. rw (value-none kind rs g f (omega arith))) in
+    let cost : ℕ → ℕ = λ f. frameCost squared (value kind width rs g f) (valueIn rows g f) in
+    let cut = sumFrom-append 0 (horizon width rs) (frameCount - horizon width rs) cost in
+    let none-left : sumFrom (0 + horizon width rs) (frameCount - horizon width rs) cost ≡ 0 =
+    sumFrom-zero (0 + horizon width rs) (frameCount - horizon width rs) cost (λ f c d. rw (value-none kind width rs g f (omega arith))) in
     ap (λ (n : ℕ). sumFrom 0 n cost) parts ∙ omega arith)
 
--- a frame with a value lies on the page of the log's greatest last frame
-pub value-on-page : (kind : ℕ) (rs : List (Span ℕ)) (g f v : ℕ) → value kind rs g f ≡ some v
-    → (g < groupCount) × (f < horizon rs)
-value-on-page kind rs g f v e = (
-  value-inside kind rs g f v e .0,
-  elim (decLe (suc f) (horizon rs)) [
+-- a frame with a value lies on that page
+pub value-on-page : (kind width : ℕ) (rs : List (Span ℕ)) (g f v : ℕ) → value kind width rs g f ≡ some v
+    → (g < groupCount) × (f < horizon width rs)
+value-on-page kind width rs g f v e = (
+  value-inside kind width rs g f v e .0,
+  elim (decLe (suc f) (horizon width rs)) [
     | yes h ↦ h
-    | no h ↦ (let z : _≡_ {A = ℕ} 0 1 = cc (value-none kind rs g f (omega arith)) in absurd (omega arith))
+    | no h ↦ (let z : _≡_ {A = ℕ} 0 1 = cc (value-none kind width rs g f (omega arith)) in absurd (omega arith))
   ],
 )

@@ -12,7 +12,7 @@ use lib.Dec.{eqb}
 use borrow.Author.Tests.{le-leb, leb-true, eqb-true, eqb-false}
 use lib.ListN.{length}
 use Rattle.model.specs.Slot.{slotLength}
-use Rattle.model.specs.Questions.{Question, Outcome, refused, accepted, ask, askRoom, outcome, lent, each, enoughRows}
+use Rattle.model.specs.Questions.{Question, Outcome, refused, accepted, ask, askRoom, outcome, lent, each, enoughRows, queryBy}
 use Rattle.model.specs.Questions.{ruledQuestions, orderQuestions, writeQuestions, withoutTwinsQuestions, segmentsQuestions, queryQuestions, slotQuestions}
 use Rattle.model.specs.Calls.{Counts, writeOutcome, writtenBuffer, withoutTwinsOutcome, withoutTwinsBuffer, segmentsOutcome, filledList, queryOutcome, querySlot, answerOf, countsOf, readOutcome, readListQuestions, readListOutcome, readList, stepOutcome, stepNext, lookupOutcome}
 use Rattle.model.specs.Calls.{ruledOutcome, ruledSlot, boundOf, byLetterQuestions, letterOutcome, letterSlot}
@@ -222,20 +222,20 @@ asks qs a was is keeps =
     }
 
 -- a query whose bound is named by a letter
-letter-asks : (kind letter x : ℕ) (log slot : List ℕ)
-    → Asks (byLetterQuestions kind letter x log (length slot)) (letterOutcome kind letter x log (length slot)) slot
-    (letterSlot kind letter x log slot)
+letter-asks : (kind letter x width : ℕ) (log slot : List ℕ)
+    → Asks (byLetterQuestions kind letter x width log (length slot)) (letterOutcome kind letter x width log (length slot)) slot
+    (letterSlot kind letter x width log slot)
 unfolding byLetterQuestions letterOutcome letterSlot queryOutcome querySlot
-letter-asks kind letter x log slot = by (boundOf letter x) refl
+letter-asks kind letter x width log slot = by (boundOf letter x) refl
   where
     by : (o : Option Bound) → boundOf letter x ≡ o
-        → Asks (byLetterQuestions kind letter x log (length slot)) (letterOutcome kind letter x log (length slot)) slot
-        (letterSlot kind letter x log slot)
+        → Asks (byLetterQuestions kind letter x width log (length slot)) (letterOutcome kind letter x width log (length slot)) slot
+        (letterSlot kind letter x width log slot)
     by none e =
         rw (e, byLetterQuestions, letterOutcome, letterSlot) (asks _ _ _ _ (λ n i h. refl))
     by (some bound) e =
         rw (e, byLetterQuestions, letterOutcome, letterSlot)
-        (asks _ _ _ _ (λ n i. refused-lent (queryQuestions (record { kind = kind; bound = bound }) log (length slot)) _ n i _ _))
+        (asks _ _ _ _ (λ n i. refused-lent (queryQuestions (queryBy kind bound width) log (length slot)) _ n i _ _))
 
 -- the first demand
 pub demand1 : Demand1
@@ -244,7 +244,7 @@ demand1 =
     record {
       write = λ r buffer. asks _ _ _ _ (λ n i. refused-lent (writeQuestions r (length buffer)) _ n i _ _);
       withoutTwins = λ log buffer. asks _ _ _ _ (λ n i. refused-lent (withoutTwinsQuestions log (length buffer)) _ n i _ _);
-      segments = λ kind log list. asks _ _ _ _ (λ n i. refused-lent (segmentsQuestions kind log (length list)) _ n i _ _);
+      segments = λ kind width log list. asks _ _ _ _ (λ n i. refused-lent (segmentsQuestions kind width log (length list)) _ n i _ _);
       query = λ q log slot. asks _ _ _ _ (λ n i. refused-lent (queryQuestions q log (length slot)) _ n i _ _);
       ruled = λ q log slot. asks _ _ _ _ (λ n i. refused-lent (ruledQuestions q log (length slot)) _ n i _ _);
       letter = letter-asks;
@@ -252,7 +252,7 @@ demand1 =
       readList = λ slot list. asks _ _ _ _ (λ n i. refused-lent (readListQuestions slot (length list)) _ n i _ _);
       step = λ slot number. asks _ _ _ _ (λ n i. refused-lent (slotQuestions slot) _ n i _ _);
       lookup = λ slot group frame. asks _ _ _ _ (λ n i e. refl);
-      check = λ log slot. asks _ _ _ _ (λ n i e. refl);
+      check = λ width log slot. asks _ _ _ _ (λ n i e. refl);
     }
 
 module _ (q : Query) (log : List ℕ) (room : ℕ) where

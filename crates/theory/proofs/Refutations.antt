@@ -17,7 +17,7 @@ use Rattle.model.specs.Log.{recordLength, recordBytes, recordAt, recordCount, t
 use Rattle.model.specs.Blocks.{segmentAt, squared}
 use Rattle.model.specs.Split.{Reduced, mostRows, reduced}
 use Rattle.model.specs.Slot.{slotLength, byBound, byWindows, rowBytes, rowsBytes, usedBytes, slotBytes, rowPlace, slotMark, slotKind, slotCount, slotError, slotRow, slotRows, valueIn}
-use Rattle.model.specs.Questions.{refused, accepted, ask, askRoom, outcome, each, marked, kindKnown, boundKnown, groupKnown, mostRecords, spanQuestions, recordQuestions, twinQuestions, logQuestions, orderQuestions}
+use Rattle.model.specs.Questions.{refused, accepted, ask, askRoom, outcome, each, marked, kindKnown, boundKnown, groupKnown, mostRecords, spanQuestions, recordQuestions, twinQuestions, logQuestions, orderQuestions, askWidth, widthKnown}
 use Rattle.model.specs.Questions.{lent, follows, inOrder, rowKnown, rowQuestions, errorKnown, headerMarked, slotQuestions}
 use Rattle.model.specs.Calls.{Counts, logSegments, answerOf, countsOf, queryOutcome, cutsWeighed, queryWeighed, boundOf, letterWeighed, Header, readOutcome, readRows}
 use Rattle.model.specs.Guarantee.{Choices, LeastOfFewest, WithinShare, Exceeds, BestOfLimit, BestOfShare, BestRows, NoRows}
@@ -41,22 +41,22 @@ log-tie = span 0 0 0 0 ∷ span 0 1 1 1 ∷ span 0 2 2 0 ∷ []
 
 -- the list fits the log, of kind 0, with this squared error
 abbrev pub Fit : List (Span ℕ) → ℕ → List (Span ℕ) → Type 0
-Fit log error rows = FitsFor 0 (value 0 log) (map whole rows) × (squaredError (value 0 log) (map whole rows) ≡ error)
+Fit log error rows = FitsFor 0 (value 0 1 log) (map whole rows) × (squaredError (value 0 1 log) (map whole rows) ≡ error)
 
 -- as a page shows
 abbrev pub OnPage : List (Span ℕ) → ℕ → List (Span ℕ) → Type 0
 OnPage log error rows =
-    (leb (horizon log) frameCount ≡ true) × (onPage groupCount (horizon log) (map whole rows) ≡ true)
-    × (exactOn (value 0 log) groupCount (horizon log) (map whole rows) ≡ true)
-    × (overFrames groupCount (horizon log) (λ g f. frameCost squared (value 0 log g f) (valueIn (map whole rows) g f)) ≡ error)
+    (leb (horizon 1 log) frameCount ≡ true) × (onPage groupCount (horizon 1 log) (map whole rows) ≡ true)
+    × (exactOn (value 0 1 log) groupCount (horizon 1 log) (map whole rows) ≡ true)
+    × (overFrames groupCount (horizon 1 log) (λ g f. frameCost squared (value 0 1 log g f) (valueIn (map whole rows) g f)) ≡ error)
 
 pub fit : (log : List (Span ℕ)) (error : ℕ) (rows : List (Span ℕ)) → OnPage log error rows → Fit log error rows
 fit log error rows (short, on, exact, sums) = (
   record {
-    covers = page-fits (value 0 log) groupCount (horizon log) (value-on-page 0 log) (map whole rows) on exact;
+    covers = page-fits (value 0 1 log) groupCount (horizon 1 log) (value-on-page 0 1 log) (map whole rows) on exact;
     nowhereBelow = λ is. absurd (omega arith);
   },
-  page-error 0 log (map whole rows) short ∙ sums,
+  page-error 0 1 log (map whole rows) short ∙ sums,
 )
 
 -- G with one row per run, with its best five rows, and with another four
@@ -80,11 +80,11 @@ pages = (
 )
 
 abbrev pub val-G : ℕ → ℕ → Option ℕ
-val-G = value 0 log-G
+val-G = value 0 1 log-G
 
 -- the lists of rows that fit G, by a kind
 abbrev pub lists-of : ℕ → Choices (List (Span ℤ))
-lists-of kind = rowLists kind (value kind log-G)
+lists-of kind = rowLists kind (value kind 1 log-G)
 
 abbrev lists-G : Choices (List (Span ℤ))
 lists-G = lists-of 0
@@ -112,7 +112,7 @@ module _ (kind : ℕ) where
   -- a query of G is in order
   pub in-order : (bound : Bound) → kindKnown kind ≡ true → boundKnown bound ≡ true
       → AllPass (orderQuestions (query kind bound) (bytes log-G))
-  unfolding orderQuestions logQuestions recordCount twins isFirst recordLength mostRecords each recordQuestions twinQuestions spanQuestions marked groupKnown recordAt every numberAt recordBytes bytesOf ask outcome
+  unfolding orderQuestions logQuestions recordCount twins isFirst recordLength mostRecords each recordQuestions twinQuestions spanQuestions marked groupKnown recordAt every numberAt recordBytes bytesOf ask askWidth widthKnown outcome
   in-order bound known in-range =
       outcome-accepted (orderQuestions (query kind bound) (bytes log-G)) (tt {0}) (tt {0}) (rw (known, in-range)) .0
 
@@ -125,7 +125,7 @@ module _ (kind : ℕ) where
 
   -- and of an accepted query's rows
   pub best-G : (bound : Bound) (a : Reduced) → queryOutcome (query kind bound) (bytes log-G) 768 ≡ accepted (countsOf a)
-      → reduced kind bound (logSegments kind (bytes log-G)) ≡ some a
+      → reduced kind bound (logSegments kind 1 (bytes log-G)) ≡ some a
       → BestRows (lists-of kind) bound (a .error) (map whole (a .rows))
   unfolding answerOf
   best-G bound a ok is =
@@ -133,7 +133,7 @@ module _ (kind : ℕ) where
       let answer : answerOf (query kind bound) (bytes log-G) ≡ a = rw is in
       let error : b .error ≡ a .error = b .answerError ∙ ap (λ (r : Reduced). r .error) answer in
       let rows : b .rows ≡ a .rows = b .answerRows ∙ ap (λ (r : Reduced). r .rows) answer in
-      subst (λ rs. BestRows (rowLists kind (value kind rs)) bound (a .error) (map whole (a .rows))) decoded
+      subst (λ rs. BestRows (rowLists kind (value kind 1 rs)) bound (a .error) (map whole (a .rows))) decoded
       (rw (error, rows) at (b .best))
 
   -- no two rows fit
@@ -141,7 +141,7 @@ module _ (kind : ℕ) where
       → NoRows (lists-of kind) (Rows 2)
   unfolding boundKnown mostRows
   two-never known two =
-      subst (λ rs. NoRows (rowLists kind (value kind rs)) (Rows 2)) decoded (says-G (Rows 2) known refl .0 two)
+      subst (λ rs. NoRows (rowLists kind (value kind 1 rs)) (Rows 2)) decoded (says-G (Rows 2) known refl .0 two)
 
   -- so the least squared error of three rows is that of the fewest
   pub least-of-three : (error : ℕ) (rows : List (Span ℕ)) → kindKnown kind ≡ true
@@ -251,7 +251,7 @@ pub row-over-limit : BestOfLimit lists-G 3 11280 (map whole rows-G) → ⊥
 row-over-limit b = omega (arith, b .count)
 
 -- loads 0, 1, 0 with a limit of two: two rows have the right error, and so has one (fewest)
-pub row-too-many : BestOfLimit (rowLists 0 (value 0 log-tie)) 2 1 (map whole (span 0 0 1 0 ∷ span 0 2 2 0 ∷ [])) → ⊥
+pub row-too-many : BestOfLimit (rowLists 0 (value 0 1 log-tie)) 2 1 (map whole (span 0 0 1 0 ∷ span 0 2 2 0 ∷ [])) → ⊥
 row-too-many b = omega (arith, b .fewest (map whole (span 0 0 2 0 ∷ [])) (one-fit .0) (omega arith) (one-fit .1))
 
 -- rows with less error that leave a frame out (fits)
@@ -291,20 +291,20 @@ share-without-a-frame b = frame-left-out (b .fits)
 -- said of G with c = 3
 pub said-of-three : SaysTooFew (query 0 (Rows 3)) (bytes log-G) (refused 10 0) → ⊥
 said-of-three says =
-    subst (λ rs. NoRows (rowLists 0 (value 0 rs)) (Rows 3)) decoded (says .0 refl) (map whole runs-G) (runs-fit .0) (omega arith)
+    subst (λ rs. NoRows (rowLists 0 (value 0 1 rs)) (Rows 3)) decoded (says .0 refl) (map whole runs-G) (runs-fit .0) (omega arith)
 
 -- not said of G with c = 2
 pub not-said-of-two : (counts : Counts) → SaysTooFew (query 0 (Rows 2)) (bytes log-G) (accepted counts) → ⊥
 unfolding kindKnown
 not-said-of-two counts says =
-    accepted≢refused (says .1 (subst (λ rs. NoRows (rowLists 0 (value 0 rs)) (Rows 2)) (sym decoded) (two-never 0 refl two-refused)))
+    accepted≢refused (says .1 (subst (λ rs. NoRows (rowLists 0 (value 0 1 rs)) (Rows 2)) (sym decoded) (two-never 0 refl two-refused)))
 
 -- said of G with p = 0: its segments are within every share
 pub said-of-a-share : SaysTooFew (query 0 (Share 0)) (bytes log-G) (refused 10 0) → ⊥
 unfolding mostRows
 said-of-a-share says =
     let error = segments-fit .1 in
-    subst (λ rs. NoRows (rowLists 0 (value 0 rs)) (Share 0)) decoded (says .0 refl) (map whole segments-G) (segments-fit .0) (omega arith)
+    subst (λ rs. NoRows (rowLists 0 (value 0 1 rs)) (Share 0)) decoded (says .0 refl) (map whole segments-G) (segments-fit .0) (omega arith)
     (record { of = 40087; isLeast = least-G; met = omega arith })
 
 -- ---- what is read from a slot
@@ -388,14 +388,14 @@ pub slot-not-best : BestSlot (query 0 (Rows 4)) (bytes log-G) (slotBytes byBound
 slot-not-best b =
     let (mark, kind, error, rows) = one-reading _ _ _ _ _ _ _ _ _ (b .reads) (readings .2) in
     one-row-per-run
-    (subst (λ rs. BestOfLimit (rowLists 0 (value 0 rs)) 4 40087 (map whole runs-G)) decoded (rw (error, rows) at (b .best)))
+    (subst (λ rs. BestOfLimit (rowLists 0 (value 0 1 rs)) 4 40087 (map whole runs-G)) decoded (rw (error, rows) at (b .best)))
 
 -- five rows for p = 282 (best, with a share)
 pub slot-not-fewest : BestSlot (query 0 (Share 282)) (bytes log-G) (slotBytes byBound 0 67 five-G) → ⊥
 slot-not-fewest b =
     let (mark, kind, error, rows) = one-reading _ _ _ _ _ _ _ _ _ (b .reads) (readings .3) in
     five-rows-for-282
-    (subst (λ rs. BestOfShare (rowLists 0 (value 0 rs)) 282 67 (map whole five-G)) decoded (rw (error, rows) at (b .best)))
+    (subst (λ rs. BestOfShare (rowLists 0 (value 0 1 rs)) 282 67 (map whole five-G)) decoded (rw (error, rows) at (b .best)))
 
 -- ---- what the calls promise beyond their equations
 
@@ -425,41 +425,41 @@ ten-before-runs after p = said-of-three (p .tooFew (omega arith) (in-order 0 (Ro
 
 -- cuts weighed for a letter that names no bound (weighed)
 pub cuts-for-no-letter : (after : List ℕ)
-    → LetterPromise 0 0x41 4 (bytes log-G) (replicate 768 0) (accepted (record { rows = 0; error = 0; weighed = 1 })) after → ⊥
+    → LetterPromise 0 0x41 4 1 (bytes log-G) (replicate 768 0) (accepted (record { rows = 0; error = 0; weighed = 1 })) after → ⊥
 unfolding cutsWeighed letterWeighed boundOf
 cuts-for-no-letter after p = omega (arith, p .weighed)
 
 -- 'too few rows' for the letter 52 and c = 3 (named)
 pub ten-by-letter : (after : List ℕ)
-    → LetterPromise 0 0x52 3 (bytes log-G) (replicate 768 0) (refused 10 0) after → ⊥
+    → LetterPromise 0 0x52 3 1 (bytes log-G) (replicate 768 0) (refused 10 0) after → ⊥
 unfolding boundOf
 ten-by-letter after p = ten-before-runs after (p .named (Rows 3) refl)
 
 -- ---- the rest of demand 3
 
 -- a row where nothing is covered (uncovered)
-pub row-on-nothing : FitsFor 0 (value 0 []) (map whole (span 0 0 0 0 ∷ [])) → ⊥
+pub row-on-nothing : FitsFor 0 (value 0 1 []) (map whole (span 0 0 0 0 ∷ [])) → ⊥
 unfolding horizon
 row-on-nothing f =
     omega (
       arith,
-      ap length (demand3 .uncovered 0 (value 0 []) (λ g f. value-none 0 [] g f zero-le) (map whole (span 0 0 0 0 ∷ [])) .0 f),
+      ap length (demand3 .uncovered 0 (value 0 1 []) (λ g f. value-none 0 1 [] g f zero-le) (map whole (span 0 0 0 0 ∷ [])) .0 f),
     )
 
 -- every list exceeds every share (oneLeast: there is one)
 pub everything-exceeds : ((rows : List (Span ℤ)) → Exceeds lists-G 1000 rows) → ⊥
 everything-exceeds none-within =
-    let (L, is, only) = demand3 .oneLeast 0 (bytes log-G) in
-    let here : LeastOfFewest lists-G L = subst (λ rs. LeastOfFewest (rowLists 0 (value 0 rs)) L) decoded is in
+    let (L, is, only) = demand3 .oneLeast 0 1 (bytes log-G) in
+    let here : LeastOfFewest lists-G L = subst (λ rs. LeastOfFewest (rowLists 0 (value 0 1 rs)) L) decoded is in
     let error = here .error in
     none-within (here .choice) (record { of = L; isLeast = here; met = omega arith })
 
 -- two errors are the least (oneLeast: there is no other)
 pub two-least : (L : ℕ) → LeastOfFewest lists-G L → LeastOfFewest lists-G (suc L) → ⊥
 two-least L is other =
-    let (M, least, only) = demand3 .oneLeast 0 (bytes log-G) in
+    let (M, least, only) = demand3 .oneLeast 0 1 (bytes log-G) in
     omega (
       arith,
-      only L (subst (λ rs. LeastOfFewest (rowLists 0 (value 0 rs)) L) (sym decoded) is),
-      only (suc L) (subst (λ rs. LeastOfFewest (rowLists 0 (value 0 rs)) (suc L)) (sym decoded) other),
+      only L (subst (λ rs. LeastOfFewest (rowLists 0 (value 0 1 rs)) L) (sym decoded) is),
+      only (suc L) (subst (λ rs. LeastOfFewest (rowLists 0 (value 0 1 rs)) (suc L)) (sym decoded) other),
     )

@@ -85,9 +85,9 @@ nine-rows = replicate 64 (record { group = 9; first = 9; last = 9; value = 9 })
 
 -- the first 'no' of each call's questions
 first-noes : (outcome (writeQuestions wrong-record 9) (tt {0}) ≡ refused 7 0)
-    × (outcome (segmentsQuestions 5 [] 255) (tt {0}) ≡ refused 2 0)
+    × (outcome (segmentsQuestions 5 1 [] 255) (tt {0}) ≡ refused 2 0)
     × (outcome (queryQuestions (query 5 (Rows 65)) [] 768) (tt {0}) ≡ refused 2 0)
-    × (outcome (byLetterQuestions 0 0x41 4 [] 768) (tt {0}) ≡ refused 3 0)
+    × (outcome (byLetterQuestions 0 0x41 4 1 [] 768) (tt {0}) ≡ refused 3 0)
     × (outcome (slotQuestions zero-slot) (tt {0}) ≡ refused 11 0)
     × (outcome (lookupQuestions (slotBytes byBound 0 11280 rows-G) 8) (tt {0}) ≡ refused 7 0)
     × (outcome (readListQuestions zero-slot 64) (tt {0}) ≡ refused 11 0)
@@ -117,9 +117,9 @@ wrong-write =
     let (says, kept) = asks-refused _ _ _ 7 0 (first-noes .0) _ (demand1 .write wrong-record nines) in
     ((λ e. accepted≢refused (sym e ∙ says)), λ e. omega (arith, ap (λ (l : List ℕ). getD l 0 0) (sym e ∙ kept)))
 
-pub wrong-segments : ((n : ℕ) → segmentsOutcome 5 [] 255 ≡ accepted n → ⊥) × (filledList 5 [] nine-segments ≡ [] → ⊥)
+pub wrong-segments : ((n : ℕ) → segmentsOutcome 5 1 [] 255 ≡ accepted n → ⊥) × (filledList 5 1 [] nine-segments ≡ [] → ⊥)
 wrong-segments =
-    let (says, kept) = asks-refused _ _ _ 2 0 (first-noes .1) _ (demand1 .segments 5 [] nine-segments) in
+    let (says, kept) = asks-refused _ _ _ 2 0 (first-noes .1) _ (demand1 .segments 5 1 [] nine-segments) in
     ((λ n e. accepted≢refused (sym e ∙ says)), λ e. omega (arith, ap length (sym e ∙ kept)))
 
 pub wrong-query : ((counts : Counts) → queryOutcome (query 5 (Rows 65)) [] 768 ≡ accepted counts → ⊥)
@@ -136,11 +136,11 @@ wrong-beats =
     let (says, kept) = asks-refused _ _ _ 18 0 (first-noes .9) _ (demand1 .ruled (beatQuery 0 0 1) [] zero-slot) in
     ((λ counts e. accepted≢refused (sym e ∙ says)), λ e. omega (arith, ap (λ (l : List ℕ). getD l 0 0) (sym e ∙ kept)))
 
-pub wrong-letter : ((counts : Counts) → letterOutcome 0 0x41 4 [] 768 ≡ accepted counts → ⊥)
-    × (letterSlot 0 0x41 4 [] zero-slot ≡ slotBytes byBound 0 0 [] → ⊥)
+pub wrong-letter : ((counts : Counts) → letterOutcome 0 0x41 4 1 [] 768 ≡ accepted counts → ⊥)
+    × (letterSlot 0 0x41 4 1 [] zero-slot ≡ slotBytes byBound 0 0 [] → ⊥)
 unfolding slotBytes usedBytes
 wrong-letter =
-    let (says, kept) = asks-refused _ _ _ 3 0 (first-noes .3) _ (demand1 .letter 0 0x41 4 [] zero-slot) in
+    let (says, kept) = asks-refused _ _ _ 3 0 (first-noes .3) _ (demand1 .letter 0 0x41 4 1 [] zero-slot) in
     ((λ counts e. accepted≢refused (sym e ∙ says)), λ e. omega (arith, ap (λ (l : List ℕ). getD l 0 0) (sym e ∙ kept)))
 
 pub wrong-read : (header : Header) → readOutcome zero-slot ≡ accepted header → ⊥

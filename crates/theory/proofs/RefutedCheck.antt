@@ -11,7 +11,7 @@ use Rattle.model.specs.Log.{recordLength, meeting, sum, aggregate, aggregated, 
 use Rattle.model.specs.Blocks.{squared}
 use Rattle.model.specs.Split.{mostRows}
 use Rattle.model.specs.Slot.{slotLength, byBound, byWindows, rowBytes, rowsBytes, usedBytes, slotBytes, rowPlace, slotMark, slotKind, slotCount, slotError, slotRow, slotRows, valueIn}
-use Rattle.model.specs.Questions.{refused, accepted, ask, askRoom, outcome, lent, each, marked, kindKnown, boundKnown, groupKnown, logQuestions, orderQuestions}
+use Rattle.model.specs.Questions.{refused, accepted, ask, askRoom, outcome, lent, each, marked, kindKnown, boundKnown, groupKnown, logQuestions, orderQuestions, widthKnown}
 use Rattle.model.specs.Questions.{follows, inOrder, rowKnown, rowQuestions, errorKnown, headerMarked, slotQuestions}
 use Rattle.model.specs.Calls.{Counts, readOutcome, readRows}
 use Rattle.model.specs.Fitting.{hits, due, FitsFor, frameCost, overFrames, squaredError, whole}
@@ -69,67 +69,68 @@ finer-page = (refl, refl, refl, refl)
 
 logged : AllPass (logQuestions (bytes log-G))
 unfolding orderQuestions kindKnown boundKnown mostRows
-logged = all-tail _ _ (all-tail _ _ (in-order 0 (Rows 4) refl refl))
+logged = all-tail _ _ (all-tail _ _ (all-tail _ _ (in-order 0 (Rows 4) refl refl)))
 
 -- what it means for a slot that is read so to agree with G
 fits-G : (kind error : ℕ) (rows : List (Span ℕ)) → Reads (slot-of kind error rows) byBound kind error rows
-    → Agrees (bytes log-G) (slot-of kind error rows)
-    → FitsFor kind (value kind log-G) (map whole rows) × (squaredError (value kind log-G) (map whole rows) ≡ error)
+    → Agrees 1 (bytes log-G) (slot-of kind error rows)
+    → FitsFor kind (value kind 1 log-G) (map whole rows) × (squaredError (value kind 1 log-G) (map whole rows) ≡ error)
 fits-G kind error rows is a =
     let (mark, same-kind, same-error, same-rows) = one-reading _ _ _ _ _ _ _ _ _ (a .reads) is in
     let fits = rw (same-kind, same-rows) at (a .fits) in
     let sums = rw (same-kind, same-rows, same-error) at (a .hasError) in
-    subst (λ rs. FitsFor kind (value kind rs) (map whole rows) × (squaredError (value kind rs) (map whole rows) ≡ error)) decoded (fits, sums)
+    subst (λ rs. FitsFor kind (value kind 1 rs) (map whole rows) × (squaredError (value kind 1 rs) (map whole rows) ≡ error)) decoded (fits, sums)
 
 agrees-G : (error : ℕ) (rows : List (Span ℕ)) → Reads (slot-of 0 error rows) byBound 0 error rows
-    → FitsFor 0 val-G (map whole rows) × (squaredError val-G (map whole rows) ≡ error) → Agrees (bytes log-G) (slot-of 0 error rows)
+    → FitsFor 0 val-G (map whole rows) × (squaredError val-G (map whole rows) ≡ error) → Agrees 1 (bytes log-G) (slot-of 0 error rows)
+unfolding widthKnown
 agrees-G error rows is both =
     let (fits, sums) =
-    subst (λ rs. FitsFor 0 (value 0 rs) (map whole rows) × (squaredError (value 0 rs) (map whole rows) ≡ error)) (sym decoded) both in
-    record { kind = 0; error = error; rows = rows; logPasses = logged; reads = is; fits = fits; hasError = sums }
+    subst (λ rs. FitsFor 0 (value 0 1 rs) (map whole rows) × (squaredError (value 0 1 rs) (map whole rows) ≡ error)) (sym decoded) both in
+    record { kind = 0; error = error; rows = rows; known = refl; logPasses = logged; reads = is; fits = fits; hasError = sums }
 
 -- ---- accepted though they do not agree (exactly)
 
 -- a frame left out, and a row across a gap (covers)
-pub frame-left-out-accepted : CheckPromise (bytes log-G) (slot-of 0 40087 left-out) (accepted tt) → ⊥
+pub frame-left-out-accepted : CheckPromise 1 (bytes log-G) (slot-of 0 40087 left-out) (accepted tt) → ⊥
 frame-left-out-accepted p = frame-left-out (fits-G 0 40087 left-out (read .0) (p .exactly .0 refl) .0)
 
-pub gap-accepted : CheckPromise (bytes log-G) (slot-of 0 11280 across) (accepted tt) → ⊥
+pub gap-accepted : CheckPromise 1 (bytes log-G) (slot-of 0 11280 across) (accepted tt) → ⊥
 gap-accepted p = row-across-gap (fits-G 0 11280 across (read .1) (p .exactly .0 refl) .0)
 
 -- a row of kind 3 that falls short (nowhereBelow)
-pub short-accepted : CheckPromise (bytes log-G) (slot-of greatestKind 24087 short-G3) (accepted tt) → ⊥
+pub short-accepted : CheckPromise 1 (bytes log-G) (slot-of greatestKind 24087 short-G3) (accepted tt) → ⊥
 unfolding whole
 short-accepted p = one-below-greatest (fits-G greatestKind 24087 short-G3 (read .3) (p .exactly .0 refl) .0)
 
 -- the right rows with another error (hasError)
-pub error-accepted : CheckPromise (bytes log-G) (slot-of 0 11281 rows-G) (accepted tt) → ⊥
+pub error-accepted : CheckPromise 1 (bytes log-G) (slot-of 0 11281 rows-G) (accepted tt) → ⊥
 error-accepted p = omega (arith, fits-G 0 11281 rows-G (readings .1) (p .exactly .0 refl) .1, four-fit .1)
 
 -- a slot by windows (reads)
-pub windows-accepted : CheckPromise (bytes log-G) (slotBytes byWindows 0 0 rows-G) (accepted tt) → ⊥
+pub windows-accepted : CheckPromise 1 (bytes log-G) (slotBytes byWindows 0 0 rows-G) (accepted tt) → ⊥
 windows-accepted p =
     let a = p .exactly .0 refl in
     omega (arith, one-reading _ byBound byWindows _ _ _ _ _ _ (a .reads) (read .4) .0)
 
 -- a log of one byte (logPasses)
-pub log-accepted : (slot : List ℕ) → CheckPromise (0 ∷ []) slot (accepted tt) → ⊥
+pub log-accepted : (slot : List ℕ) → CheckPromise 1 (0 ∷ []) slot (accepted tt) → ⊥
 unfolding logQuestions recordLength ask
 log-accepted slot p = true≢false (sym (all-head _ _ (p .exactly .0 refl .logPasses)))
 
 -- ---- refused though they agree (exactly)
 
 -- the tool's own rows, and rows cut finer
-pub own-refused : (number index : ℕ) → CheckPromise (bytes log-G) (slot-of 0 11280 rows-G) (refused number index) → ⊥
+pub own-refused : (number index : ℕ) → CheckPromise 1 (bytes log-G) (slot-of 0 11280 rows-G) (refused number index) → ⊥
 own-refused number index p = accepted≢refused (sym (p .exactly .1 (agrees-G 11280 rows-G (readings .0) four-fit)))
 
-pub finer-refused : (number index : ℕ) → CheckPromise (bytes log-G) (slot-of 0 11280 finer) (refused number index) → ⊥
+pub finer-refused : (number index : ℕ) → CheckPromise 1 (bytes log-G) (slot-of 0 11280 finer) (refused number index) → ⊥
 finer-refused number index p = accepted≢refused (sym (p .exactly .1 (agrees-G 11280 finer (read .2) (fit log-G 11280 finer finer-page))))
 
 -- ---- what else is promised
 
 -- four rows with a smaller error than the tool's own four (noBetter)
-pub better-than-own : ((room : ℕ) → slotLength ≤ room → NoBetter (bytes log-G) (slot-of 0 11279 rows-G) room) → ⊥
+pub better-than-own : ((room : ℕ) → slotLength ≤ room → NoBetter 1 (bytes log-G) (slot-of 0 11279 rows-G) room) → ⊥
 unfolding slotLength
 better-than-own no-better =
     let b = no-better 768 (omega arith) in
@@ -138,7 +139,7 @@ better-than-own no-better =
     omega (arith, b .asGreatAnError, ap (λ (c : Counts). c .error) own)
 
 -- an answer of its own with more rows (asManyRows)
-pub own-of-more-rows : (b : NoBetter (bytes log-G) (slot-of 0 11279 rows-G) 768) → b .own .rows ≡ 5 → ⊥
+pub own-of-more-rows : (b : NoBetter 1 (bytes log-G) (slot-of 0 11279 rows-G) 768) → b .own .rows ≡ 5 → ⊥
 own-of-more-rows b five =
     let rows = one-reading _ _ _ _ _ _ _ _ _ (b .reads) (read .5) .3 in
     omega (arith, b .asManyRows, ap length rows)
@@ -148,18 +149,18 @@ pub query-not-passed : (counts : Counts)
     → QueryPromise (query 0 (Rows 4)) (bytes log-G) (replicate 768 0) (accepted counts) (replicate 768 0) → ⊥
 unfolding checkOutcome readOutcome
 query-not-passed counts p =
-    let (logs, slots, mark, rest) =
-    in-parts (bytes log-G) (replicate 768 0) (outcome-accepted (checkQuestions (bytes log-G) (replicate 768 0)) tt tt (p .passes counts refl) .0) in
+    let (known, logs, slots, mark, rest) =
+    in-parts 1 (bytes log-G) (replicate 768 0) (outcome-accepted (checkQuestions 1 (bytes log-G) (replicate 768 0)) tt tt (p .passes counts refl) .0) in
     accepted≢refused (sym (all-outcome (slotQuestions (replicate 768 0)) _ slots) ∙ readings .4)
 
 -- a slot by windows refused by 22, as it never is with the records in another order (anyOrder)
-pub order-told : ((another : List ℕ) → Shuffled log another → refused 22 0 ≡ checkOutcome another (slotBytes byWindows 0 0 rows-G)) → ⊥
-unfolding slotMark slotBytes usedBytes
+pub order-told : ((another : List ℕ) → Shuffled log another → refused 22 0 ≡ checkOutcome 1 another (slotBytes byWindows 0 0 rows-G)) → ⊥
+unfolding slotMark slotBytes usedBytes widthKnown
 order-told any-order =
     omega (
       arith,
       refused-number
           (any-order other swapped
-          ∙ not-by-windows other (slotBytes byWindows 0 0 rows-G) (long-slotBytes byWindows 0 0 rows-G) (swapped .otherPasses) refl)
+          ∙ not-by-windows 1 other (slotBytes byWindows 0 0 rows-G) (long-slotBytes byWindows 0 0 rows-G) refl (swapped .otherPasses) refl)
           .0,
     )

@@ -29,7 +29,7 @@ use Rattle.theory.proofs.Demands.{demand2}
 use Rattle.theory.proofs.Refutations.{decoded, lists-of, best-G, least-of-three}
 
 abbrev val-G3 : ℕ → ℕ → Option ℕ
-val-G3 = value greatestKind log-G
+val-G3 = value greatestKind 1 log-G
 
 abbrev lists-G3 : Choices (List (Span ℤ))
 lists-G3 = lists-of greatestKind
@@ -103,7 +103,7 @@ four-rows-for-16 b =
 
 -- ---- rows that fall short
 
-needed : value greatestKind (records (bytes log-G)) 0 6 ≡ some 210
+needed : value greatestKind 1 (records (bytes log-G)) 0 6 ≡ some 210
 unfolding groupCount frameCount meets meeting aggregated aggregate value
 needed = rw decoded
 

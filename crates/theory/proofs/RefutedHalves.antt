@@ -16,7 +16,7 @@ use Rattle.model.specs.Blocks.{segmentAt, gap, lastGap, runsTo, block, empty, t
 use Rattle.model.specs.Split.{untried, plus, below, exceeds, weigh, scan, single, cell, least, weighed, cutsOf, rowsOf, fewest, chosen, rowsTried, Reduced, mostRows, gapBelow, runs}
 use Rattle.model.specs.Reductions.{IsReduction, reductionError}
 use Rattle.model.specs.Slot.{slotLength, byBound, slotBytes}
-use Rattle.model.specs.Questions.{Outcome, refused, accepted, ask, outcome, each, marked, askRoom, kindKnown, boundKnown, groupKnown, spanQuestions, recordQuestions, twinQuestions, mostRecords, fileQuestions, logQuestions, orderQuestions}
+use Rattle.model.specs.Questions.{Outcome, refused, accepted, ask, outcome, each, marked, askRoom, kindKnown, boundKnown, groupKnown, spanQuestions, recordQuestions, twinQuestions, mostRecords, fileQuestions, logQuestions, orderQuestions, askWidth, widthKnown}
 use Rattle.model.specs.Calls.{Counts, logSegments, countsOf, queryOutcome, readOutcome}
 use Rattle.model.specs.LowerHalves.{lowerNearest, lowerValue, lowerError, lowerErrorOf, lowerLeastOf, lowerCountFor, lowerReducedTo, lowerReduced, lowerAnswer, lowerOutcome}
 use Rattle.model.specs.Demands.{AllPass, HalfAbove, AllRisen, Cut, LowerCut}
@@ -86,7 +86,7 @@ abbrev asked : ℕ → ℕ → Outcome Counts
 asked error weighed = accepted (record { rows = 1; error = error; weighed = weighed })
 
 lower-says : lowerOutcome (query 0 (Rows 1)) (bytes loads) 768 ≡ asked 1 0
-unfolding sumFrom sumOf every listFrom isSome numberAt bytesOf spanLength adjacent nowhere recordLength recordBytes recordAt recordCount twins isFirst segmentAt gap lastGap runsTo block empty totalsOf add totals squared errorWith rowOf untried plus below exceeds weigh scan single cell least weighed cutsOf rowsOf fewest chosen rowsTried mostRows gapBelow runs slotLength ask outcome each marked askRoom kindKnown boundKnown groupKnown spanQuestions recordQuestions twinQuestions mostRecords logQuestions orderQuestions countsOf lowerNearest lowerValue lowerError lowerErrorOf lowerLeastOf lowerCountFor lowerReducedTo lowerReduced lowerAnswer lowerOutcome
+unfolding sumFrom sumOf every listFrom isSome numberAt bytesOf spanLength adjacent nowhere recordLength recordBytes recordAt recordCount twins isFirst segmentAt gap lastGap runsTo block empty totalsOf add totals squared errorWith rowOf untried plus below exceeds weigh scan single cell least weighed cutsOf rowsOf fewest chosen rowsTried mostRows gapBelow runs slotLength ask outcome each marked askRoom askWidth widthKnown kindKnown boundKnown groupKnown spanQuestions recordQuestions twinQuestions mostRecords logQuestions orderQuestions countsOf lowerNearest lowerValue lowerError lowerErrorOf lowerLeastOf lowerCountFor lowerReducedTo lowerReduced lowerAnswer lowerOutcome
 lower-says = rw (worked-cases .1 .1 .0 .0)
 
 says-now : {o : Outcome Counts} → queryOutcome (query 0 (Rows 1)) (bytes loads) 768 ≡ o → asked 1 0 ≡ o
@@ -161,7 +161,7 @@ earlier-logged = outcome-accepted (fileQuestions (bytes loads)) (tt {0}) (tt {0}
 
 -- refused, whatever stands behind it: a slot of one row, whose block is all of these segments (stillRead)
 pub one-row-refused : (kind : ℕ) (log : List ℕ) (segs : List (Span ℕ)) (a : Reduced) → kindKnown kind ≡ true
-    → AllPass (fileQuestions log) → logSegments kind log ≡ segs → LowerCut 0 segs a (0 ∷ [])
+    → AllPass (fileQuestions log) → logSegments kind 1 log ≡ segs → LowerCut 0 segs a (0 ∷ [])
     → IsReduction (gapBelow segs) (length segs) (0 ∷ []) → (rest : List ℕ) (number index : ℕ)
     → readOutcome (slotBytes byBound kind (a .error) (a .rows) ++ rest) ≡ refused number index → ⊥
 unfolding mostRows
@@ -172,7 +172,7 @@ one-row-refused kind log segs a known logged found cut is rest number index e =
     accepted≢refused (sym (reads .header) ∙ e)
 
 -- of a kind by which these loads are the segments
-earlier-refused : (kind : ℕ) → kindKnown kind ≡ true → logSegments kind (bytes loads) ≡ loads → (rest : List ℕ) (number index : ℕ)
+earlier-refused : (kind : ℕ) → kindKnown kind ≡ true → logSegments kind 1 (bytes loads) ≡ loads → (rest : List ℕ) (number index : ℕ)
     → readOutcome (slotBytes byBound kind 1 (one-row 0) ++ rest) ≡ refused number index → ⊥
 earlier-refused kind known found =
     one-row-refused kind (bytes loads) loads earlier known earlier-logged found (earlier-cut .0) (earlier-cut .1)

@@ -15,7 +15,7 @@ use Rattle.model.specs.Blocks.{segmentAt, gap, runsTo}
 use Rattle.model.specs.Split.{mostRows, chosen, runs, countFor}
 use Rattle.model.specs.Windows.{boundIn}
 use Rattle.model.specs.Slot.{slotLength, usedBytes, slotBytes}
-use Rattle.model.specs.Questions.{Outcome, refused, accepted, ask, askRoom, outcome, each, marked, kindKnown, boundKnown, groupKnown, spanQuestions, recordQuestions, twinQuestions, mostRecords, mostSegments, logQuestions, segmentsQuestions, enoughRows, ruleQuestion, rowsQuestion, ruledOrder, ruledQuestions}
+use Rattle.model.specs.Questions.{Outcome, refused, accepted, ask, askRoom, outcome, each, marked, kindKnown, boundKnown, groupKnown, spanQuestions, recordQuestions, twinQuestions, mostRecords, mostSegments, logQuestions, segmentsQuestions, enoughRows, ruleQuestion, rowsQuestion, ruledOrder, ruledQuestions, askWidth, widthQuestions, widthKnown}
 use Rattle.model.specs.Calls.{Counts, segmentOf, logSegments, segmentsOutcome, filledList, ruleOf, boundedQuery, queryOutcome, querySlot, ruledOutcome, ruledSlot, boundOf, letterOutcome, letterSlot}
 use Rattle.model.specs.Fitting.{hits, due}
 use Rattle.model.specs.Demands.{AllPass, SameRecords, Shuffled, SameAnswer, SegmentsPromise, QueryPromise, RuledPromise, LetterPromise}
@@ -103,19 +103,19 @@ by-rows = boundedQuery (query 0 (Rows 3))
 
 -- the query is accepted for the other order, or refused with 10
 other-says : ruledOutcome by-rows other 768 ≡ refused 9 1 → ⊥
-unfolding boundedQuery ruleOf ruleQuestion boundKnown ask kindKnown slotLength mostRows
+unfolding boundedQuery ruleOf boundIn ruleQuestion widthQuestions boundKnown widthKnown askWidth ask kindKnown slotLength mostRows
 other-says e =
     ⊎-elim (λ (both, says, says-too, bytes). accepted≢refused (sym says-too ∙ e))
     (λ (n, is, says, says-too).
     let nine = refused-number (sym says-too ∙ e) .0 in
     ⊎-elim (λ (ten : n ≡ 10). omega arith) (λ (twenty : n ≡ 20). omega arith) is)
-    (any-order .query by-rows log other (replicate 768 0) (replicate 768 0) swapped refl refl (omega arith) (omega arith))
+    (any-order .query by-rows log other (replicate 768 0) (replicate 768 0) swapped refl refl (all-cons _ _ refl all-nil) (omega arith) (omega arith))
 
 -- slots of other lengths, with other bytes in them, hold the same after the two queries
 pub any-slots : SameAnswer (ruledOutcome by-rows log 768) (ruledSlot by-rows log (replicate 768 0))
     (ruledOutcome by-rows other 770) (ruledSlot by-rows other (replicate 770 9))
-unfolding boundedQuery ruleOf ruleQuestion boundKnown ask kindKnown slotLength mostRows
-any-slots = any-order .query by-rows log other (replicate 768 0) (replicate 770 9) swapped refl refl (omega arith) (omega arith)
+unfolding boundedQuery ruleOf boundIn ruleQuestion widthQuestions boundKnown widthKnown askWidth ask kindKnown slotLength mostRows
+any-slots = any-order .query by-rows log other (replicate 768 0) (replicate 770 9) swapped refl refl (all-cons _ _ refl all-nil) (omega arith) (omega arith)
 
 -- it is the query by a bound, and by a letter
 by-bound : (ruledOutcome by-rows other 768 ≡ queryOutcome (query 0 (Rows 3)) other 768)
@@ -133,31 +133,31 @@ module _ (after : List ℕ) where
   pub order-refused-by-bound : QueryPromise (query 0 (Rows 3)) log (replicate 768 0) (refused 9 1) after → ⊥
   order-refused-by-bound p = other-says (by-bound .0 ∙ sym (p .anyOrder other swapped .0))
 
-  pub order-refused-by-letter : LetterPromise 0 0x52 3 log (replicate 768 0) (refused 9 1) after → ⊥
+  pub order-refused-by-letter : LetterPromise 0 0x52 3 1 log (replicate 768 0) (refused 9 1) after → ⊥
   unfolding letterOutcome boundOf
   order-refused-by-letter p = other-says (by-bound .0 ∙ sym (p .anyOrder other swapped .0))
 
 abbrev places : List Segment
 places = replicate 255 (record { group = 9; first = 9; last = 9; value = 9 })
 
-other-segments : logSegments 0 other ≡ span 0 0 1 100 ∷ span 0 2 3 300 ∷ span 0 4 5 200 ∷ []
+other-segments : logSegments 0 1 other ≡ span 0 0 1 100 ∷ span 0 2 3 300 ∷ span 0 4 5 200 ∷ []
 unfolding logSegments records recordCount recordLength recordAt recordBytes listFrom numberAt bytesOf horizon groupCount frameCount meets adjacent meeting sum aggregate aggregated value join fuse place framesFrom groupsFrom segmentsOf
-other-segments = short-page 0 (b ∷ a ∷ []) refl
+other-segments = short-page 0 1 (b ∷ a ∷ []) refl
 
-segments-asked : AllPass (segmentsQuestions 0 other 255)
-unfolding segmentsQuestions askRoom ask kindKnown mostSegments
-segments-asked = all-cons _ _ refl (all-cons _ _ refl (swapped .otherPasses))
+segments-asked : AllPass (segmentsQuestions 0 1 other 255)
+unfolding segmentsQuestions askRoom askWidth ask kindKnown widthKnown mostSegments
+segments-asked = all-cons _ _ refl (all-cons _ _ refl (all-cons _ _ refl (swapped .otherPasses)))
 
-pub segments-refused : (after : List Segment) → SegmentsPromise 0 log places (refused 9 1) after → ⊥
+pub segments-refused : (after : List Segment) → SegmentsPromise 0 1 log places (refused 9 1) after → ⊥
 unfolding segmentsOutcome
 segments-refused after p =
-    accepted≢refused (sym (p .anyOrder other swapped .0 ∙ all-outcome (segmentsQuestions 0 other 255) _ segments-asked))
+    accepted≢refused (sym (p .anyOrder other swapped .0 ∙ all-outcome (segmentsQuestions 0 1 other 255) _ segments-asked))
 
 -- success over an untouched list
-pub segments-untouched : (says : Outcome ℕ) → SegmentsPromise 0 log places says places → ⊥
+pub segments-untouched : (says : Outcome ℕ) → SegmentsPromise 0 1 log places says places → ⊥
 unfolding filledList segmentOf
 segments-untouched says p =
-    let left = p .anyOrder other swapped .1 ∙ all-lent (segmentsQuestions 0 other 255) _ places segments-asked in
+    let left = p .anyOrder other swapped .1 ∙ all-lent (segmentsQuestions 0 1 other 255) _ places segments-asked in
     omega (arith, ap (λ (l : List Segment). (getD l 0 (record { group = 9; first = 9; last = 9; value = 9 })) .value) (rw other-segments at left))
 
 -- success over an untouched slot
@@ -166,11 +166,11 @@ unfolding enoughRows logSegments countFor chosen runs runsTo gap segmentAt adjac
 enough = rw other-segments
 
 other-slot : getD (ruledSlot by-rows other (replicate 768 0)) 0 0 ≡ 0x50
-unfolding ruledSlot ruledQuestions ruledOrder rowsQuestion boundedQuery ruleOf ruleQuestion boundKnown ask askRoom kindKnown slotLength mostRows slotBytes usedBytes boundIn
+unfolding ruledSlot ruledQuestions ruledOrder rowsQuestion boundedQuery ruleOf ruleQuestion widthQuestions boundKnown widthKnown askWidth ask askRoom kindKnown slotLength mostRows slotBytes usedBytes boundIn
 other-slot =
     ap (λ (l : List ℕ). getD l 0 0)
     (all-lent (ruledQuestions by-rows other 768) _ (replicate 768 0)
-    (all-cons _ _ refl (all-cons _ _ refl (all-cons _ _ refl (all-append _ _ (swapped .otherPasses) (all-cons _ _ enough all-nil))))))
+    (all-cons _ _ refl (all-cons _ _ refl (all-cons _ _ refl (all-cons _ _ refl (all-append _ _ (swapped .otherPasses) (all-cons _ _ enough all-nil)))))))
 
 untouched : replicate 768 0 ≡ ruledSlot by-rows other (replicate 768 0) → ⊥
 untouched e = omega (arith, ap (λ (l : List ℕ). getD l 0 0) e ∙ other-slot)
@@ -182,7 +182,7 @@ module _ (says : Outcome Counts) where
   pub order-untouched-by-bound : QueryPromise (query 0 (Rows 3)) log (replicate 768 0) says (replicate 768 0) → ⊥
   order-untouched-by-bound p = untouched (p .anyOrder other swapped .1 ∙ sym (by-bound .1))
 
-  pub order-untouched-by-letter : LetterPromise 0 0x52 3 log (replicate 768 0) says (replicate 768 0) → ⊥
+  pub order-untouched-by-letter : LetterPromise 0 0x52 3 1 log (replicate 768 0) says (replicate 768 0) → ⊥
   unfolding letterSlot boundOf
   order-untouched-by-letter p = untouched (p .anyOrder other swapped .1 ∙ sym (by-bound .1))
 
@@ -190,16 +190,16 @@ module _ (says : Outcome Counts) where
 
 -- with 'of the same length' for 'hold the same records'
 pub length-alone : ((l m : List ℕ) → AllPass (logQuestions l) → AllPass (logQuestions m) → length l ≡ length m
-    → logSegments 0 l ≡ logSegments 0 m) → ⊥
+    → logSegments 0 1 l ≡ logSegments 0 1 m) → ⊥
 unfolding due records recordCount recordLength recordAt recordBytes listFrom numberAt bytesOf groupCount frameCount meets meeting sum aggregate aggregated value
 length-alone claim =
     let e = claim log apart (passing .0) (passing .1) refl in
-    let covered = demand2 .segmentation 0 apart .exact 0 9 in
-    let not-covered = demand2 .segmentation 0 log .exact 0 9 in
+    let covered = demand2 .segmentation 0 1 apart .exact 0 9 in
+    let not-covered = demand2 .segmentation 0 1 log .exact 0 9 in
     omega (arith, sym not-covered ∙ ap (λ (l : List (Span ℕ)). hits l 0 9) e ∙ covered)
 
 -- without 'that all pass': a record that is refused takes its index along
 pub index-moves : ((q : RuledQuery) (l m : List ℕ) → SameRecords l m → ruledOutcome q l 768 ≡ ruledOutcome q m 768) → ⊥
-unfolding listFrom every numberAt bytesOf recordLength recordBytes recordAt recordCount records twins isFirst ask askRoom outcome each marked kindKnown boundKnown groupKnown spanQuestions recordQuestions twinQuestions mostRecords mostRows slotLength logQuestions ruleOf boundedQuery ruleQuestion ruledOrder ruledQuestions ruledOutcome
+unfolding listFrom every numberAt bytesOf recordLength recordBytes recordAt recordCount records twins isFirst ask askRoom outcome each marked kindKnown boundKnown groupKnown spanQuestions recordQuestions twinQuestions mostRecords mostRows slotLength logQuestions ruleOf boundedQuery boundIn ruleQuestion widthQuestions askWidth widthKnown ruledOrder ruledQuestions ruledOutcome
 index-moves claim =
     omega (arith, refused-number (claim by-rows (bytes (bad ∷ a ∷ [])) (bytes (a ∷ bad ∷ [])) (List·Permᴰ·swap refl refl)) .1)

@@ -16,7 +16,7 @@ use Rattle.model.specs.Blocks.{segmentAt, gap, lastGap, runsTo, block, empty, t
 use Rattle.model.specs.Split.{untried, plus, below, exceeds, weigh, scan, single, cell, least, errorOf, gapBelow, rowsOf, runs, leastOf, mostRows}
 use Rattle.model.specs.Reductions.{IsReduction, Merges, reductionError, NotEarlier, IsLeast, BestWithin, FewestWithin}
 use Rattle.model.specs.Slot.{slotLength}
-use Rattle.model.specs.Questions.{accepted, refused, kindKnown, boundKnown, orderQuestions, fileQuestions, mostSegments}
+use Rattle.model.specs.Questions.{accepted, refused, kindKnown, boundKnown, orderQuestions, fileQuestions, mostSegments, widthKnown}
 use Rattle.model.specs.Calls.{Counts, logSegments, answerOf, countsOf, queryOutcome}
 use Rattle.model.specs.Fitting.{hits, due}
 use Rattle.model.specs.Demands.{AllPass, Segmentation, MeanInHundredths, Cut, Bytes}
@@ -34,11 +34,11 @@ use Rattle.theory.proofs.Refutations.{runs-G, in-order}
 -- ---- segments
 
 -- a segment that ends before it begins (ordered)
-pub segment-backwards : Segmentation (value 0 []) (span 0 5 4 0 ∷ []) → ⊥
+pub segment-backwards : Segmentation (value 0 1 []) (span 0 5 4 0 ∷ []) → ⊥
 segment-backwards s = omega (arith, s .ordered (span 0 5 4 0) (List·Memᴰ·head refl))
 
 -- loads 0, 1, 0 in one segment (constant)
-pub segment-of-two-values : Segmentation (value 0 (span 0 0 2 0 ∷ span 0 1 1 1 ∷ [])) (span 0 0 2 0 ∷ []) → ⊥
+pub segment-of-two-values : Segmentation (value 0 1 (span 0 0 2 0 ∷ span 0 1 1 1 ∷ [])) (span 0 0 2 0 ∷ []) → ⊥
 unfolding value meeting meets aggregated aggregate sum groupCount frameCount
 segment-of-two-values s =
     let same = s .constant (span 0 0 2 0) (List·Memᴰ·head refl) 1 (omega arith) (omega arith) in
@@ -46,19 +46,19 @@ segment-of-two-values s =
     omega arith
 
 -- G without its last segment (exact)
-pub segment-left-out : Segmentation (value 0 log-G)
+pub segment-left-out : Segmentation (value 0 1 log-G)
     (span 0 0 1 100 ∷ span 0 2 3 300 ∷ span 0 4 5 200 ∷ span 0 6 6 210 ∷ span 0 9 10 50 ∷ []) → ⊥
 unfolding hits due holds value meeting meets aggregated aggregate sum groupCount frameCount
 segment-left-out s = omega (arith, s .exact 1 0)
 
 -- G with frames 9 and 10 before the others (sorted: by first frame in a group)
-pub segments-by-no-frame : Segmentation (value 0 log-G)
+pub segments-by-no-frame : Segmentation (value 0 1 log-G)
     (span 0 9 10 50 ∷ span 0 0 1 100 ∷ span 0 2 3 300 ∷ span 0 4 5 200 ∷ span 0 6 6 210 ∷ span 1 0 0 7 ∷ []) → ⊥
 unfolding segmentAt
 segments-by-no-frame s = ⊎-elim (λ h. omega arith) (λ h. omega arith) (s .sorted 0 (omega arith))
 
 -- G with group 1 before the last segment of group 0 (sorted: by group)
-pub segments-by-no-group : Segmentation (value 0 log-G)
+pub segments-by-no-group : Segmentation (value 0 1 log-G)
     (span 0 0 1 100 ∷ span 0 2 3 300 ∷ span 0 4 5 200 ∷ span 0 6 6 210 ∷ span 1 0 0 7 ∷ span 0 9 10 50 ∷ []) → ⊥
 unfolding segmentAt
 segments-by-no-group s = ⊎-elim (λ h. omega arith) (λ h. omega arith) (s .sorted 4 (omega arith))
@@ -68,15 +68,15 @@ abbrev end-to-end : List (Span ℕ)
 end-to-end = span 0 0 3 10 ∷ span 0 4 7 10 ∷ []
 
 -- not joined: the first could go on, the second could begin earlier (longest), and neighbours are equal (differ)
-pub segment-could-go-on : Segmentation (value 0 end-to-end) end-to-end → ⊥
+pub segment-could-go-on : Segmentation (value 0 1 end-to-end) end-to-end → ⊥
 unfolding value meeting meets aggregated aggregate sum groupCount frameCount
 segment-could-go-on s = s .longest (span 0 0 3 10) (List·Memᴰ·head refl) .0 refl
 
-pub segment-could-begin-earlier : Segmentation (value 0 end-to-end) end-to-end → ⊥
+pub segment-could-begin-earlier : Segmentation (value 0 1 end-to-end) end-to-end → ⊥
 unfolding value meeting meets aggregated aggregate sum groupCount frameCount
 segment-could-begin-earlier s = s .longest (span 0 4 7 10) (List·Memᴰ·tail (List·Memᴰ·head refl)) .1 3 refl refl
 
-pub neighbours-not-joined : Segmentation (value 0 end-to-end) end-to-end → ⊥
+pub neighbours-not-joined : Segmentation (value 0 1 end-to-end) end-to-end → ⊥
 unfolding segmentAt adjacent
 neighbours-not-joined s = s .differ 0 (omega arith) refl refl
 
@@ -261,7 +261,7 @@ first-of-equal-cuts-before b =
 
 -- ---- demand 2 of log G
 
-found-G : logSegments 0 (bytes log-G) ≡ segments-G
+found-G : logSegments 0 1 (bytes log-G) ≡ segments-G
 found-G = worked-cases .0 .0 .0
 
 -- the rows of four cuts, and the error of its blocks (Cut)
@@ -273,30 +273,30 @@ pub cut-to-another-error : Cut 0 segments-G (record { rows = rows-G; error = 112
 cut-to-another-error c = omega (arith, c .error ∙ errors-G .1)
 
 -- neighbours that are not joined (segmentation)
-pub segments-not-joined : logSegments 0 (bytes end-to-end) ≡ end-to-end → ⊥
+pub segments-not-joined : logSegments 0 1 (bytes end-to-end) ≡ end-to-end → ⊥
 unfolding records recordCount recordLength listFrom recordAt numberAt recordBytes bytesOf
 segments-not-joined e =
     neighbours-not-joined
-    (subst (Segmentation (value 0 end-to-end)) e (demand2 .segmentation 0 (bytes end-to-end)))
+    (subst (Segmentation (value 0 1 end-to-end)) e (demand2 .segmentation 0 1 (bytes end-to-end)))
 
 -- 256 segments (count)
-pub segments-too-many : (kind : ℕ) (log : List ℕ) → AllPass (fileQuestions log) → length (logSegments kind log) ≡ 256 → ⊥
+pub segments-too-many : (kind width : ℕ) (log : List ℕ) → AllPass (fileQuestions log) → length (logSegments kind width log) ≡ 256 → ⊥
 unfolding mostSegments
-segments-too-many kind log all e = omega (arith, demand2 .count kind log all)
+segments-too-many kind width log all e = omega (arith, demand2 .count kind width log all)
 
 -- a merge across the gap before group 1, and cuts that are said to come of no merging (merging)
 pub merged-across-gap : Merges (gap (segmentAt segments-G)) 6 (4 ∷ 1 ∷ 0 ∷ []) → ⊥
 merged-across-gap m =
     block-across-gap
     (subst (λ segs. IsReduction (gapBelow segs) (length segs) (4 ∷ 1 ∷ 0 ∷ [])) found-G
-    (demand2 .merging 0 (bytes log-G) (4 ∷ 1 ∷ 0 ∷ []) .1
+    (demand2 .merging 0 1 (bytes log-G) (4 ∷ 1 ∷ 0 ∷ []) .1
     (subst (λ segs. Merges (gap (segmentAt segs)) (length segs) (4 ∷ 1 ∷ 0 ∷ [])) (sym found-G) m)))
 
 pub four-not-merged : (Merges (gap (segmentAt segments-G)) 6 four-cut → ⊥) → ⊥
 four-not-merged never =
     never
     (subst (λ segs. Merges (gap (segmentAt segs)) (length segs) four-cut) found-G
-    (demand2 .merging 0 (bytes log-G) four-cut .0
+    (demand2 .merging 0 1 (bytes log-G) four-cut .0
     (subst (λ segs. IsReduction (gapBelow segs) (length segs) four-cut) (sym found-G) (four-reduction))))
 
 -- G with c = 4 answered by one row per run, and with p = 282 by five rows (reduction)
@@ -342,10 +342,10 @@ bytes-only (b ∷ rest) h (suc i) = bytes-only rest (and-true (ltb b 256) _ h .1
 -- G passes the questions of a log
 logged-G : AllPass (fileQuestions (bytes log-G))
 unfolding kindKnown boundKnown mostRows orderQuestions
-logged-G = file-passed (bytes log-G) (all-tail _ _ (all-tail _ _ (in-order 0 (Rows 4) refl refl)))
+logged-G = file-passed (bytes log-G) (all-tail _ _ (all-tail _ _ (all-tail _ _ (in-order 0 (Rows 4) refl refl))))
 
 -- a load lost where two records overlap (conserved)
-pub load-lost : logSegments 0 (bytes log-G)
+pub load-lost : logSegments 0 1 (bytes log-G)
     ≡ span 0 0 1 100 ∷ span 0 2 3 200 ∷ span 0 4 5 200 ∷ span 0 6 6 210 ∷ span 0 9 10 50 ∷ span 1 0 0 7 ∷ [] → ⊥
 unfolding bytesOnly records recordCount recordLength listFrom recordAt numberAt recordBytes bytesOf sumOf spanLength
 load-lost e =
@@ -353,13 +353,13 @@ load-lost e =
     omega (arith, ap (sumOf (λ s. spanLength s * s .value)) e, conserved)
 
 -- the mean of the loads 100 and 200 at frame 2 of G taken for 150 hundredths (mean)
-pub mean-in-whole-units : value 4 (records (bytes log-G)) 0 2 ≡ some 150 → ⊥
+pub mean-in-whole-units : value 4 1 (records (bytes log-G)) 0 2 ≡ some 150 → ⊥
 unfolding records recordCount recordLength listFrom recordAt numberAt recordBytes bytesOf meeting meets sum
 mean-in-whole-units e =
-    omega (arith, demand2 .mean (bytes log-G) logged-G 0 2 150 e .lessThanOneBelow)
+    omega (arith, demand2 .mean 1 (bytes log-G) logged-G 0 2 150 e .lessThanOneBelow)
 
 -- the empty log refused (emptyLog)
 pub nothing-refused : (number index : ℕ) → queryOutcome (query 0 (Share 0)) [] 768 ≡ refused number index → ⊥
-unfolding slotLength kindKnown boundKnown
+unfolding slotLength kindKnown boundKnown widthKnown
 nothing-refused number index e =
-    accepted≢refused (sym (demand2 .emptyLog (query 0 (Share 0)) 768 (omega arith) refl refl .1) ∙ e)
+    accepted≢refused (sym (demand2 .emptyLog (query 0 (Share 0)) 768 (omega arith) refl refl refl .1) ∙ e)

@@ -105,9 +105,9 @@ twin-on-file f = accepted≢refused (sym (first-noes .2) ∙ first-no-outcome (w
 -- ---- slots of before
 
 -- the record a twice: its load doubled, in one segment
-doubled : logSegments 0 (bytes (a ∷ a ∷ [])) ≡ span 0 0 3 200 ∷ []
+doubled : logSegments 0 1 (bytes (a ∷ a ∷ [])) ≡ span 0 0 3 200 ∷ []
 unfolding logSegments records recordCount recordLength recordAt recordBytes listFrom numberAt bytesOf horizon groupCount frameCount meets adjacent meeting sum aggregate aggregated value join fuse place framesFrom groupsFrom segmentsOf
-doubled = short-page 0 (a ∷ a ∷ []) refl
+doubled = short-page 0 1 (a ∷ a ∷ []) refl
 
 -- and in one row, with no error
 abbrev doubled-row : Reduced

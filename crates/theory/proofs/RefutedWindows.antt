@@ -12,7 +12,7 @@ use Rattle.model.specs.Blocks.{segmentAt}
 use Rattle.model.specs.Split.{mostRows}
 use Rattle.model.specs.Windows.{boundIn, beat, beatCount, scene, windowCount, windowAt, windows, windowRow, groupRows, spanRows}
 use Rattle.model.specs.Slot.{slotLength, byBound, usedBytes, slotBytes, slotMark, valueIn}
-use Rattle.model.specs.Questions.{refused, accepted, ask, outcome, each, marked, kindKnown, groupKnown, spanQuestions, recordQuestions, twinQuestions, mostRecords, logQuestions}
+use Rattle.model.specs.Questions.{refused, accepted, ask, outcome, each, marked, kindKnown, groupKnown, spanQuestions, recordQuestions, twinQuestions, mostRecords, logQuestions, widthQuestions}
 use Rattle.model.specs.Questions.{sceneFollows, sceneKnown, mostScenes, scenesKnown, ruleQuestion, windowRows, ruledOrder, slotQuestions}
 use Rattle.model.specs.Calls.{Counts, Header, headerOf, readOutcome, noFrames, ruleOf, boundedQuery, beatQuery, sceneQuery}
 use Rattle.model.specs.Demands.{AllPass, SpanAggregation, RuledPromise}
@@ -107,14 +107,14 @@ before-the-start a = omega (arith, ap length (only-last _ a))
 -- ---- the first frame, by a window of its own (frameByFrame)
 
 pub first-frame : (kind start : ℕ) (log : List ℕ) (g : ℕ)
-    → (valueIn (windowRows (beatQuery kind 1 start) log) g start ≡ value kind (records log) g start → ⊥) → ⊥
+    → (valueIn (windowRows (beatQuery kind 1 start) log) g start ≡ value kind 1 (records log) g start → ⊥) → ⊥
 first-frame kind start log g differ = differ (demand2 .frameByFrame kind start log g start (omega arith))
 
 -- ---- what a query by a rule promises beyond its equations
 
 -- the questions ahead of 20 are passed
 in-order : AllPass (ruledOrder by-scenes (bytes log-G))
-unfolding ruledOrder ruleQuestion scenesKnown every sceneKnown sceneFollows mostScenes frameCount noFrames sceneQuery ask kindKnown logQuestions recordCount twins isFirst recordLength mostRecords each recordQuestions twinQuestions spanQuestions marked groupKnown recordAt numberAt recordBytes bytesOf outcome
+unfolding ruledOrder ruleQuestion widthQuestions boundIn scenesKnown every sceneKnown sceneFollows mostScenes frameCount noFrames sceneQuery ask kindKnown logQuestions recordCount twins isFirst recordLength mostRecords each recordQuestions twinQuestions spanQuestions marked groupKnown recordAt numberAt recordBytes bytesOf outcome
 in-order = outcome-accepted (ruledOrder by-scenes (bytes log-G)) (tt {0}) tt refl .0
 
 module _ (after : List ℕ) where

@@ -14,7 +14,7 @@ use Rattle.model.specs.Log.{recordCount}
 use Rattle.model.specs.Split.{mostRows}
 use Rattle.model.specs.Windows.{boundIn}
 use Rattle.model.specs.Slot.{slotLength}
-use Rattle.model.specs.Questions.{Question, refused, accepted, ask, askRoom, outcome, spanQuestions, recordQuestions, twinQuestions, logQuestions, orderQuestions, queryQuestions}
+use Rattle.model.specs.Questions.{Question, refused, accepted, ask, askRoom, outcome, spanQuestions, recordQuestions, twinQuestions, logQuestions, orderQuestions, queryQuestions, widthQuestions}
 use Rattle.model.specs.Questions.{withBound, windowRows, ruleQuestion, rowsQuestion, ruledOrder, ruledQuestions}
 use Rattle.model.specs.Calls.{Counts, countsOf, queryOutcome, querySlot, ruleOf, ruledAnswer, ruledMark, ruledOutcome, ruledSlot}
 use Rattle.model.specs.Demands.{AllPass, SaysTooMany}
@@ -38,7 +38,7 @@ bound-back (bound.Share p) = refl
 
 module _ (q : RuledQuery) (bound : Bound) (is : boundIn (q .rule) ≡ some bound) where
   pub bound-order : (log : List ℕ) → ruledOrder q log ≡ orderQuestions (withBound q bound) log
-  unfolding ruledOrder ruleQuestion orderQuestions boundIn ask logQuestions
+  unfolding ruledOrder ruleQuestion widthQuestions orderQuestions boundIn ask logQuestions
   bound-order log = by (q .rule) refl
     where
       by : (r : Rule) → q .rule ≡ r → ruledOrder q log ≡ orderQuestions (withBound q bound) log
@@ -137,7 +137,7 @@ module _ (q : RuledQuery) (windowed : boundIn (q .rule) ≡ none) (log : List �
 
   -- and 10 is not among the questions
   pub not-too-few : (index : ℕ) → ruledOutcome q log room ≡ refused 10 index → ⊥
-  unfolding ruledOutcome ruledQuestions ruledOrder logQuestions askRoom ask rowsQuestion ruleQuestion boundIn
+  unfolding ruledOutcome ruledQuestions ruledOrder logQuestions askRoom ask rowsQuestion ruleQuestion widthQuestions boundIn
   not-too-few index e = let (x, other, ten, at) = refused-holds NotTen (ruledQuestions q log room) _ 10 index numbers e in other ten
     where
       rule-number : (r : Rule) → q .rule ≡ r → (ruleQuestion q) .number ≡ 10 → ⊥
@@ -156,7 +156,8 @@ module _ (q : RuledQuery) (windowed : boundIn (q .rule) ≡ none) (log : List �
           (λ n. omega arith),
           (
             rule-number (q .rule) refl,
-            holds-append NotTen (logQuestions log) (rowsQuestion q log ∷ []) (log-numbers log) (rows-number, tt),
+            holds-append NotTen (widthQuestions q ++ logQuestions log) (rowsQuestion q log ∷ [])
+                (holds-append NotTen (widthQuestions q) (logQuestions log) (rw (windowed, widthQuestions) tt) (log-numbers log)) (rows-number, tt),
           ),
         ),
       )

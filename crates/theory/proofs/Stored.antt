@@ -80,72 +80,72 @@ unfolding follows
 earlier-follows s t (inl lt) = rw (lt-ltb _ _ lt)
 earlier-follows s t (inr (same, lt)) = rw (eq-eqb _ _ (sym same), lt-ltb _ _ lt) (or-true (ltb (s .group) (t .group)))
 
-module _ (kind : ℕ) (rs : List (Span ℕ)) where
+module _ (kind width : ℕ) (rs : List (Span ℕ)) where
   -- the segments by number, and the rows of a reduction of them all
   abbrev pub nth : ℕ → Span ℕ
-  nth i = segmentAt (segments kind rs) i
+  nth i = segmentAt (segments kind width rs) i
 
   abbrev pub rowsAt : (List (Span ℕ) → ℕ) → List ℕ → List (Span ℕ)
-  rowsAt valueOf cuts = rowsOf valueOf (segmentAt (segments kind rs)) (length (segments kind rs)) cuts
+  rowsAt valueOf cuts = rowsOf valueOf (segmentAt (segments kind width rs)) (length (segments kind width rs)) cuts
 
   -- a segment has a frame, and lies among the groups and frames
-  nth-inside : (k : ℕ) → k < length (segments kind rs)
+  nth-inside : (k : ℕ) → k < length (segments kind width rs)
       → ((nth k) .first ≤ (nth k) .last) × ((nth k) .group < groupCount) × ((nth k) .last < frameCount)
   unfolding segments
   nth-inside k lt =
-      ordered eqb eqb-true (value kind rs) groupCount frameCount (value-inside kind rs) (nth k)
-      (segment-member (segments kind rs) k lt)
+      ordered eqb eqb-true (value kind width rs) groupCount frameCount (value-inside kind width rs) (nth k)
+      (segment-member (segments kind width rs) k lt)
 
 -- a rule for row values that gives none above the values of the block, as far as these are at most 128,000
 abbrev pub InRange : (List (Span ℕ) → ℕ) → Type 0
 InRange valueOf = (b : List (Span ℕ)) → ((s : Span ℕ) → List·Memᴰ s b → s .value ≤ mostValue) → valueOf b ≤ mostValue
 
-module _ (valueOf : List (Span ℕ) → ℕ) (in-range : InRange valueOf) (kind : ℕ) (rs : List (Span ℕ)) (few : length rs ≤ mostRecords)
+module _ (valueOf : List (Span ℕ) → ℕ) (in-range : InRange valueOf) (kind width : ℕ) (rs : List (Span ℕ)) (few : length rs ≤ mostRecords)
     (small : (r : Span ℕ) → List·Memᴰ r rs → r .value ≤ 1000) where
   -- a block's row value is at most 128,000, as its segments' are
-  row-value-le : (j i : ℕ) → j < i → i ≤ length (segments kind rs) → valueOf (block (nth kind rs) j i) ≤ mostValue
+  row-value-le : (j i : ℕ) → j < i → i ≤ length (segments kind width rs) → valueOf (block (nth kind width rs) j i) ≤ mostValue
   unfolding block
   row-value-le j i below le =
-      in-range (block (nth kind rs) j i)
+      in-range (block (nth kind width rs) j i)
       (λ s m.
-      let x = member-listFrom (nth kind rs) j (i - j) s m in
-      rw (x .3) (segment-value-le kind rs few small _ (segment-member (segments kind rs) (x .0) (omega arith))))
+      let x = member-listFrom (nth kind width rs) j (i - j) s m in
+      rw (x .3) (segment-value-le kind rs few small width _ (segment-member (segments kind width rs) (x .0) (omega arith))))
 
   -- a block's row can be held, and its segments are of one group
-  row-held : (j i : ℕ) → j < i → i ≤ length (segments kind rs) → gapBelow (segments kind rs) i ≤ j
-      → Held (rowOf valueOf (nth kind rs) j i) × ((nth kind rs j) .group ≡ (nth kind rs (i - 1)) .group)
+  row-held : (j i : ℕ) → j < i → i ≤ length (segments kind width rs) → gapBelow (segments kind width rs) i ≤ j
+      → Held (rowOf valueOf (nth kind width rs) j i) × ((nth kind width rs j) .group ≡ (nth kind width rs (i - 1)) .group)
   unfolding gapBelow rowOf
   row-held j i below le low =
       let end : j + (i - suc j) ≡ i - 1 = omega arith in
       let row =
-      reach (nth kind rs) j (i - suc j) (λ k p q. nth-inside kind rs k (omega arith) .0)
-      (λ k p q. block-adjacent (nth kind rs) i j low k p (omega arith)) in
+      reach (nth kind width rs) j (i - suc j) (λ k p q. nth-inside kind width rs k (omega arith) .0)
+      (λ k p q. block-adjacent (nth kind width rs) i j low k p (omega arith)) in
       let whole = rw end at row in (
         (
-          nth-inside kind rs j (omega arith) .1,
+          nth-inside kind width rs j (omega arith) .1,
           whole .1,
-          nth-inside kind rs (i - 1) (omega arith) .2,
+          nth-inside kind width rs (i - 1) (omega arith) .2,
           row-value-le j i below le,
         ),
         whole .0,
       )
 
-  module _ (cuts : List ℕ) (red : IsReduction (gapBelow (segments kind rs)) (length (segments kind rs)) cuts) where
+  module _ (cuts : List ℕ) (red : IsReduction (gapBelow (segments kind width rs)) (length (segments kind width rs)) cuts) where
     -- the rows are a chain of rows that can be held
-    rows-held : Chain Held Earlier (rowsAt kind rs valueOf cuts)
+    rows-held : Chain Held Earlier (rowsAt kind width rs valueOf cuts)
     unfolding gapBelow
     rows-held =
         rw append-nil at
-        (rows-chain valueOf (nth kind rs) (length (segments kind rs)) Held (segmentation kind rs .sorted) row-held cuts
-        (length (segments kind rs)) [] (le-refl _) red tt tt)
+        (rows-chain valueOf (nth kind width rs) (length (segments kind width rs)) Held (segmentation kind width rs .sorted) row-held cuts
+        (length (segments kind width rs)) [] (le-refl _) red tt tt)
 
     -- every row passes the tests of a slot's rows
-    pub rows-known : (r : Span ℕ) → List·Memᴰ r (rowsAt kind rs valueOf cuts) → (rowKnown r ≡ true) × (r .last < 2 ^ 16)
-    rows-known r m = held-known r (chain-member Held Earlier (rowsAt kind rs valueOf cuts) rows-held r m)
+    pub rows-known : (r : Span ℕ) → List·Memᴰ r (rowsAt kind width rs valueOf cuts) → (rowKnown r ≡ true) × (r .last < 2 ^ 16)
+    rows-known r m = held-known r (chain-member Held Earlier (rowsAt kind width rs valueOf cuts) rows-held r m)
 
     -- every row follows the one before it
-    pub rows-sorted : (i : ℕ) → suc i < length (rowsAt kind rs valueOf cuts)
-        → follows (segmentAt (rowsAt kind rs valueOf cuts) (suc i)) (segmentAt (rowsAt kind rs valueOf cuts) i) ≡ true
+    pub rows-sorted : (i : ℕ) → suc i < length (rowsAt kind width rs valueOf cuts)
+        → follows (segmentAt (rowsAt kind width rs valueOf cuts) (suc i)) (segmentAt (rowsAt kind width rs valueOf cuts) i) ≡ true
     unfolding segmentAt
     rows-sorted i lt =
-        earlier-follows _ _ (chain-neighbours Held Earlier (rowsAt kind rs valueOf cuts) rows-held nowhere i lt)
+        earlier-follows _ _ (chain-neighbours Held Earlier (rowsAt kind width rs valueOf cuts) rows-held nowhere i lt)

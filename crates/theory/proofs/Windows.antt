@@ -15,6 +15,7 @@ use borrow.Author.Tests.{leb-true, ltb-true, lt-ltb, eqb-true, eqb-false}
 use Rattle.model.specs.Common.{listFrom, every, joined}
 use Rattle.model.specs.Spans.{Span, groupCount, frameCount, meets, holds, nowhere}
 use Rattle.model.specs.Log.{records, meeting, aggregated, value}
+use Rattle.model.specs.NoMemory.{plainValue}
 use Rattle.model.specs.Blocks.{segmentAt}
 use Rattle.model.specs.Windows.{boundIn, Window, beat, beatCount, scene, windowCount, windowAt, windows, windowRow, groupRows, spanRows}
 use Rattle.model.specs.Slot.{valueIn}
@@ -31,6 +32,7 @@ use Rattle.theory.proofs.Converse.{member-listFrom, valueIn-member}
 use Rattle.theory.proofs.Bounds.{sound-records, stretch-le}
 use Rattle.theory.proofs.Stored.{held-known, earlier-follows}
 use Rattle.theory.proofs.Labels.{labelled-frame, member-hits}
+use Rattle.theory.proofs.Memory.{value-one}
 
 -- ---- chains by number, and chains with the same members
 
@@ -191,7 +193,7 @@ is-window q windowed passes w = by (q .rule) refl
 -- ---- the rows of windows
 
 -- some record meets a stretch of frames
-meeting-some : (kind : ℕ) (rs : List (Span ℕ)) (g a b : ℕ) (m : Span ℕ) → List·Memᴰ m rs → meets m g a b ≡ true
+pub meeting-some : (kind : ℕ) (rs : List (Span ℕ)) (g a b : ℕ) (m : Span ℕ) → List·Memᴰ m rs → meets m g a b ≡ true
     → (v : ℕ) × (aggregated kind (meeting rs g a b) ≡ some v)
 unfolding meeting aggregated
 meeting-some kind [] g a b m n e = absurd (List·Memᴰ·not-nil n)
@@ -201,7 +203,7 @@ meeting-some kind (r ∷ rs) g a b m n e =
     (λ k. let (v, is) = meeting-some kind rs g a b m k e in (v, rw t is)) (List·Memᴰ·cases-cons n))
 
 -- where there is a value, some record meets
-meeting-from : (kind : ℕ) (rs : List (Span ℕ)) (g a b v : ℕ) → aggregated kind (meeting rs g a b) ≡ some v
+pub meeting-from : (kind : ℕ) (rs : List (Span ℕ)) (g a b v : ℕ) → aggregated kind (meeting rs g a b) ≡ some v
     → (m : Span ℕ) × List·Memᴰ m rs × (meets m g a b ≡ true)
 unfolding meeting aggregated
 meeting-from kind [] g a b v e = absurd (none≢some refl e)
@@ -367,34 +369,36 @@ module _ (kind start : ℕ) (log : List ℕ) (g f : ℕ) (from : start ≤ f) wh
   single = beatQuery kind 1 start
 
   -- a value that the rows have at a frame is the frame's own
-  own-value : (v : ℕ) → valueIn (windowRows single log) g f ≡ some v → value kind (records log) g f ≡ some v
-  unfolding value beatQuery boundIn ruleQuestion ask
+  own-value : (v : ℕ) → valueIn (windowRows single log) g f ≡ some v → value kind 1 (records log) g f ≡ some v
+  unfolding plainValue beatQuery boundIn ruleQuestion ask
   own-value v e =
       let (r, m, h, is) = valueIn-member g f (windowRows single log) v e in
       let (group, low, high) = holds-true r g f h in
       let (below, (i, first, begins, last), has) = aggregation single log refl refl .isDue r m in
       let at : r .first ≡ f = omega arith in
       let to : r .last ≡ f = omega arith in
-      rw (lt-ltb g groupCount (omega arith), lt-ltb f frameCount (omega arith)) (rw (group, at, to, is) at has)
+      value-one kind (records log) g f
+      ∙ rw (lt-ltb g groupCount (omega arith), lt-ltb f frameCount (omega arith)) (rw (group, at, to, is) at has)
 
   -- windows of one frame give the frames' own values
-  pub frame-by-frame : valueIn (windowRows single log) g f ≡ value kind (records log) g f
-  unfolding value beatQuery boundIn ruleQuestion ask
-  frame-by-frame = by (valueIn (windowRows single log) g f) refl (value kind (records log) g f) refl
+  pub frame-by-frame : valueIn (windowRows single log) g f ≡ value kind 1 (records log) g f
+  unfolding plainValue beatQuery boundIn ruleQuestion ask
+  frame-by-frame = by (valueIn (windowRows single log) g f) refl (value kind 1 (records log) g f) refl
     where
-      by : (o : Option ℕ) → valueIn (windowRows single log) g f ≡ o → (p : Option ℕ) → value kind (records log) g f ≡ p → o ≡ p
+      by : (o : Option ℕ) → valueIn (windowRows single log) g f ≡ o → (p : Option ℕ) → value kind 1 (records log) g f ≡ p → o ≡ p
       by (some v) e p d = sym (own-value v e) ∙ d
       by none e none d = refl
       by none e (some v) d =
+          let own = sym (value-one kind (records log) g f) ∙ d in
           cases (ltb g groupCount && ltb f frameCount)
           (λ t.
           let inside = and-true (ltb g groupCount) (ltb f frameCount) t in
           let below = ltb-true g groupCount (inside .0) in
           let frame = ltb-true f frameCount (inside .1) in
-          let (m, n, met) = meeting-from kind (records log) g f f v (rw t at d) in
+          let (m, n, met) = meeting-from kind (records log) g f f v (rw t at own) in
           let (x, k) = aggregation single log refl refl .isThere g f f below (f - start, omega arith, frame, omega arith) m n met in
           let row : Span ℕ = record { group = g; first = f; last = f; value = x } in
           let (y, is) = labelled-frame g f (windowRows single log)
           (member-hits g f row (windowRows single log) k (true-holds row g f refl (le-refl f) (le-refl f))) in
           absurd (none≢some e is))
-          (λ t. absurd (none≢some refl (rw t at d)))
+          (λ t. absurd (none≢some refl (rw t at own)))

@@ -74,6 +74,7 @@ fn main() {
     let query = Query {
         kind: 0,
         bound: Bound::Rows(4),
+        width: 1,
     };
     let log = &input[..n];
     let queried = pacer::query_and_read(query, log, &mut slot);

@@ -17,9 +17,9 @@ use Rattle.windows.specs.declared.Stretch.{Stretch}
 abbrev pub Known : RuledQuery → Type 0
 Known q = ruleQuestion q .passed ≡ true
 
--- the query by a rule and scenes: neither its windows nor their question depend on the kind
+-- the query by a rule and scenes: neither its windows nor their question depend on kind and width
 abbrev pub byRule : Rule → List ℕ → List ℕ → RuledQuery
-byRule rule firsts lasts = record { kind = 0; rule = rule; firsts = firsts; lasts = lasts }
+byRule rule firsts lasts = record { kind = 0; rule = rule; width = 1; firsts = firsts; lasts = lasts }
 
 abbrev pub asWindow : Stretch → Window
 asWindow s = record { first = s .first; last = s .last }

@@ -29,6 +29,13 @@ const LIMITS: [u16; 4] = [1, 2, 4, 64];
 const FEW_SIZES: [usize; 3] = [1, 6, 20];
 const FEW_LIMITS: [u16; 2] = [1, 64];
 
+/// The width without a memory; those of the rows with a memory, their segment counts without one, and
+/// their row limits.
+const NO_MEMORY: u16 = c::ONE_FRAME;
+const WIDTHS: [u16; 2] = [60, c::MOST_WIDTH];
+const MEMORY_SIZES: [usize; 3] = [6, 20, 128];
+const MEMORY_LIMITS: [u16; 2] = [4, 64];
+
 fn record(group: u8, first: usize, last: usize, load: usize) -> Vec<u8> {
     let mut bytes = vec![0x4C, 0x44, group];
     for number in [first, last, load] {
@@ -324,10 +331,25 @@ fn head(numbers: &str, plain: usize) {
     println!();
 }
 
-fn query_line(report: &mut Report, shape: &Shape, n: usize, log: &[u8], rule: u8, bound: u16) {
+/// What the name of a row has behind it for a width: nothing without a memory.
+fn memory(width: u16) -> String {
+    match width {
+        NO_MEMORY => String::new(),
+        _ => format!(", w {width}"),
+    }
+}
+
+fn query_line(
+    report: &mut Report,
+    shape: &Shape,
+    log: &[u8],
+    (rule, bound): (u8, u16),
+    width: u16,
+) {
     let kind = shape.kind;
+    let n = count_segments(log, kind, width);
     let mut slot = [0; 768];
-    let answer = c::query(kind, rule, bound, log, &mut slot);
+    let answer = c::query(kind, rule, bound, width, log, &mut slot);
     let found = plain::QueryAnswer {
         question: answer.question,
         index: answer.index,
@@ -342,46 +364,60 @@ fn query_line(report: &mut Report, shape: &Shape, n: usize, log: &[u8], rule: u8
         black_box(kind),
         rule,
         bound,
+        width,
         log,
         &mut one,
     );
-    let keeping = plain::query(&mut kept, black_box(kind), rule, bound, log, &mut two);
+    let keeping = plain::query(
+        &mut kept,
+        black_box(kind),
+        rule,
+        bound,
+        width,
+        log,
+        &mut two,
+    );
     assert_eq!(found, anew, "{} n={n}", shape.name);
     assert_eq!(found, keeping, "{} n={n}", shape.name);
     assert_eq!(slot, one, "{} n={n}", shape.name);
     assert_eq!(slot, two, "{} n={n}", shape.name);
     let what = if rule == c::ROWS { "limit" } else { "share" };
-    let input = || black_box((kind, rule, bound, log));
+    let input = || black_box((kind, rule, bound, width, log));
     report.line(
-        &format!("query, {}", shape.name),
+        &format!("query, {}{}", shape.name, memory(width)),
         &format!(
             "{n:>4} {what} {bound:>4} {:>4} {:>9}",
             answer.rows, answer.weighed
         ),
         &mut [
             &mut || {
-                let (kind, rule, bound, log) = input();
-                black_box(c::query(kind, rule, bound, log, &mut slot));
+                let (kind, rule, bound, width, log) = input();
+                black_box(c::query(kind, rule, bound, width, log, &mut slot));
             },
             &mut || {
-                let (kind, rule, bound, log) = input();
+                let (kind, rule, bound, width, log) = input();
                 let errors = &mut plain::Anew;
-                black_box(plain::query(errors, kind, rule, bound, log, &mut one));
+                black_box(plain::query(
+                    errors, kind, rule, bound, width, log, &mut one,
+                ));
             },
             &mut || {
-                let (kind, rule, bound, log) = input();
-                black_box(plain::query(&mut kept, kind, rule, bound, log, &mut two));
+                let (kind, rule, bound, width, log) = input();
+                let errors = &mut kept;
+                black_box(plain::query(
+                    errors, kind, rule, bound, width, log, &mut two,
+                ));
             },
         ],
     );
 }
 
 /// The count of segments, the same for both. The log is accepted, and so has no twins.
-fn count_segments(log: &[u8], kind: u8) -> usize {
+fn count_segments(log: &[u8], kind: u8, width: u16) -> usize {
     let mut list = [c::Segment::default(); 255];
     let mut other = [plain::Segment::default(); 255];
-    let answer = c::segments(log, kind, &mut list);
-    let expected = plain::segments(log, black_box(kind), &mut other);
+    let answer = c::segments(log, kind, width, &mut list);
+    let expected = plain::segments(log, black_box(kind), width, &mut other);
     assert_eq!((answer.question, answer.index, answer.count), expected);
     assert_eq!(answer.question, 0);
     for (one, two) in list.iter().zip(&other) {
@@ -394,22 +430,22 @@ fn count_segments(log: &[u8], kind: u8) -> usize {
 }
 
 /// The segment call on a log.
-fn segments_line(report: &mut Report, shape: &Shape, log: &[u8]) {
-    let n = count_segments(log, shape.kind);
+fn segments_line(report: &mut Report, shape: &Shape, log: &[u8], width: u16) {
+    let n = count_segments(log, shape.kind, width);
     let mut list = [c::Segment::default(); 255];
     let mut other = [plain::Segment::default(); 255];
-    let input = || black_box((log, shape.kind));
+    let input = || black_box((log, shape.kind, width));
     report.line(
-        &format!("segments, {}", shape.name),
+        &format!("segments, {}{}", shape.name, memory(width)),
         &n.to_string(),
         &mut [
             &mut || {
-                let (log, kind) = input();
-                black_box(c::segments(log, kind, &mut list));
+                let (log, kind, width) = input();
+                black_box(c::segments(log, kind, width, &mut list));
             },
             &mut || {
-                let (log, kind) = input();
-                black_box(plain::segments(log, kind, &mut other));
+                let (log, kind, width) = input();
+                black_box(plain::segments(log, kind, width, &mut other));
             },
         ],
     );
@@ -452,7 +488,8 @@ fn without_twins_lines(report: &mut Report) {
 /// The slot that a query writes for a log of so many segments, at most 64.
 fn slot_of(wanted: usize) -> [u8; 768] {
     let mut slot = [0; 768];
-    let answer = c::query(Kind::SUM.0, c::ROWS, 64, &random(wanted), &mut slot);
+    let log = random(wanted);
+    let answer = c::query(Kind::SUM.0, c::ROWS, 64, NO_MEMORY, &log, &mut slot);
     assert_eq!((answer.question, answer.rows), (0, wanted));
     slot
 }
@@ -727,28 +764,35 @@ fn slot_lines(report: &mut Report, by: &str, slot: &[u8; 768]) {
 const CHECKED_SIZES: [usize; 3] = [6, 60, 255];
 
 /// A slot against its log, which is answered by a question, 0 if it passes.
-fn check_line(report: &mut Report, shape: &Shape, log: &[u8], slot: &[u8; 768], question: u8) {
-    let n = count_segments(log, shape.kind);
-    let answer = c::check(log, slot);
-    let expected = plain::check(black_box(log), slot);
+fn check_line(
+    report: &mut Report,
+    shape: &Shape,
+    log: &[u8],
+    width: u16,
+    slot: &[u8; 768],
+    question: u8,
+) {
+    let n = count_segments(log, shape.kind, width);
+    let answer = c::check(log, width, slot);
+    let expected = plain::check(black_box(log), width, slot);
     assert_eq!((answer.question, answer.index), expected, "{}", shape.name);
     assert_eq!(answer.question, question, "{}", shape.name);
     let outcome = match question {
         0 => "yes".to_string(),
         _ => format!("no {question}"),
     };
-    let input = || black_box((log, slot));
+    let input = || black_box((log, width, slot));
     report.line(
-        &format!("check, {}", shape.name),
+        &format!("check, {}{}", shape.name, memory(width)),
         &format!("{n:>4} {:>4} {outcome:>6}", slot[3]),
         &mut [
             &mut || {
-                let (log, slot) = input();
-                black_box(c::check(log, slot));
+                let (log, width, slot) = input();
+                black_box(c::check(log, width, slot));
             },
             &mut || {
-                let (log, slot) = input();
-                black_box(plain::check(log, slot));
+                let (log, width, slot) = input();
+                black_box(plain::check(log, width, slot));
             },
         ],
     );
@@ -768,9 +812,9 @@ fn check_lines(report: &mut Report) {
             let mut written = [0; 768];
             for limit in [1, 64] {
                 let mut slot = [0; 768];
-                let refused = c::query(shape.kind, c::ROWS, limit, &log, &mut slot).question != 0;
-                if !refused && slot != written {
-                    check_line(report, shape, &log, &slot, 0);
+                let answer = c::query(shape.kind, c::ROWS, limit, NO_MEMORY, &log, &mut slot);
+                if answer.question == 0 && slot != written {
+                    check_line(report, shape, &log, NO_MEMORY, &slot, 0);
                     written = slot;
                 }
             }
@@ -780,22 +824,55 @@ fn check_lines(report: &mut Report) {
     assert_eq!(shape.kind, Kind::GREATEST.0);
     let log = (shape.log)(255);
     let mut slot = [0; 768];
-    let answer = c::query(shape.kind, c::ROWS, 64, &log, &mut slot);
+    let answer = c::query(shape.kind, c::ROWS, 64, NO_MEMORY, &log, &mut slot);
     // The last row's last frame and value, and the error, each one less.
     let at = 12 + 11 * (answer.rows - 1);
     for (byte, question) in [(at + 5, 22), (at + 7, 23), (4, 24)] {
         let mut damaged = slot;
         damaged[byte] -= 1;
-        check_line(report, shape, &log, &damaged, question);
+        check_line(report, shape, &log, NO_MEMORY, &damaged, question);
+    }
+}
+
+/// The shapes of the rows with a memory.
+fn memory_shapes() -> impl Iterator<Item = &'static Shape> {
+    let names = ["random", "random, 8 groups, gaps", "random, greatest"];
+    SHAPES
+        .iter()
+        .filter(move |shape| names.contains(&shape.name))
+}
+
+/// Calls `line` with each shape, log and width of the rows with a memory.
+fn with_memory(line: &mut dyn FnMut(&Shape, &[u8], u16)) {
+    for shape in memory_shapes() {
+        for wanted in MEMORY_SIZES {
+            let log = (shape.log)(wanted);
+            for width in WIDTHS {
+                line(shape, &log, width);
+            }
+        }
     }
 }
 
 /// The smallest of some shares that 64 rows meet.
-fn share_met(log: &[u8], kind: u8) -> Option<u16> {
+fn share_met(log: &[u8], kind: u8, width: u16) -> Option<u16> {
     let mut slot = [0; 768];
     [10, 50, 100, 200, 400, 600, 700, 800, 900, 1000]
         .into_iter()
-        .find(|p| c::query(kind, c::SHARE, *p, log, &mut slot).question == 0)
+        .find(|p| c::query(kind, c::SHARE, *p, width, log, &mut slot).question == 0)
+}
+
+/// Queries of a log with each of some limits that is accepted, and with a share.
+fn query_lines(report: &mut Report, shape: &Shape, log: &[u8], limits: &[u16], width: u16) {
+    for limit in limits {
+        let mut slot = [0; 768];
+        if c::query(shape.kind, c::ROWS, *limit, width, log, &mut slot).question == 0 {
+            query_line(report, shape, log, (c::ROWS, *limit), width);
+        }
+    }
+    if let Some(share) = share_met(log, shape.kind, width) {
+        query_line(report, shape, log, (c::SHARE, share), width);
+    }
 }
 
 fn main() {
@@ -819,66 +896,64 @@ fn main() {
     println!("Only logs of 'without_twins', the call for logs on file, hold equal records. A slot is held to its");
     println!("log ('check') by one plain version, which finds the segments and walks rows and segments together.");
     println!("A row named 'shuffled' has the records of the row without that word in another order, and the");
-    println!("same answer.");
+    println!("same answer. A row with 'w' and a number has a memory of so many frames, and n segments by it; the");
+    println!("plain versions move the last frames of the records as they read them. All others have none.");
 
     head("n bound          rows   weighed", 2);
     for shape in &SHAPES {
         for wanted in SIZES {
             let log = (shape.log)(wanted);
-            let n = count_segments(&log, shape.kind);
-            for limit in LIMITS {
-                let mut slot = [0; 768];
-                if c::query(shape.kind, c::ROWS, limit, &log, &mut slot).question == 0 {
-                    query_line(&mut report, shape, n, &log, c::ROWS, limit);
-                }
-            }
-            if let Some(share) = share_met(&log, shape.kind) {
-                query_line(&mut report, shape, n, &log, c::SHARE, share);
-            }
+            query_lines(&mut report, shape, &log, &LIMITS, NO_MEMORY);
         }
     }
 
     for shape in &FEW_SHAPES {
         for n in FEW_SIZES {
             let log = (shape.log)(n);
-            assert_eq!((log.len(), count_segments(&log, shape.kind)), (9 * 128, n));
+            let count = count_segments(&log, shape.kind, NO_MEMORY);
+            assert_eq!((log.len(), count), (9 * 128, n));
             for limit in FEW_LIMITS {
-                query_line(&mut report, shape, n, &log, c::ROWS, limit);
+                query_line(&mut report, shape, &log, (c::ROWS, limit), NO_MEMORY);
             }
         }
     }
 
     // 128 records, and as many segments.
     let (in_order, log) = (random(128), (SHUFFLED.log)(128));
-    let n = count_segments(&log, SHUFFLED.kind);
     let mut bounds = vec![(c::ROWS, 4), (c::ROWS, 64)];
-    bounds.extend(share_met(&log, SHUFFLED.kind).map(|share| (c::SHARE, share)));
+    bounds.extend(share_met(&log, SHUFFLED.kind, NO_MEMORY).map(|share| (c::SHARE, share)));
     for (rule, bound) in bounds {
         let answers = [&in_order, &log].map(|log| {
             let mut slot = [0; 768];
-            (c::query(SHUFFLED.kind, rule, bound, log, &mut slot), slot)
+            let answer = c::query(SHUFFLED.kind, rule, bound, NO_MEMORY, log, &mut slot);
+            (answer, slot)
         });
         assert_eq!(answers[0], answers[1]);
-        query_line(&mut report, &SHUFFLED, n, &log, rule, bound);
+        query_line(&mut report, &SHUFFLED, &log, (rule, bound), NO_MEMORY);
     }
+    with_memory(&mut |shape, log, width| {
+        query_lines(&mut report, shape, log, &MEMORY_LIMITS, width);
+    });
 
     head("n", 1);
     for shape in &SHAPES {
         for wanted in SIZES {
-            segments_line(&mut report, shape, &(shape.log)(wanted));
+            segments_line(&mut report, shape, &(shape.log)(wanted), NO_MEMORY);
         }
     }
     for shape in &FEW_SHAPES {
         for n in FEW_SIZES {
-            segments_line(&mut report, shape, &(shape.log)(n));
+            segments_line(&mut report, shape, &(shape.log)(n), NO_MEMORY);
         }
     }
     let lists = [&in_order, &log].map(|log| {
         let mut list = [c::Segment::default(); 255];
-        (c::segments(log, SHUFFLED.kind, &mut list), list)
+        let answer = c::segments(log, SHUFFLED.kind, NO_MEMORY, &mut list);
+        (answer, list)
     });
     assert_eq!(lists[0], lists[1]);
-    segments_line(&mut report, &SHUFFLED, &log);
+    segments_line(&mut report, &SHUFFLED, &log, NO_MEMORY);
+    with_memory(&mut |shape, log, width| segments_line(&mut report, shape, log, width));
 
     head("records  kept", 1);
     without_twins_lines(&mut report);
@@ -912,9 +987,18 @@ fn main() {
     let in_order = random(128);
     let log = shuffled(&in_order);
     let mut slot = [0; 768];
-    c::query(SHUFFLED.kind, c::ROWS, 64, &in_order, &mut slot);
-    assert_eq!(c::check(&in_order, &slot), c::check(&log, &slot));
-    check_line(&mut report, &SHUFFLED, &log, &slot, 0);
+    c::query(SHUFFLED.kind, c::ROWS, 64, NO_MEMORY, &in_order, &mut slot);
+    assert_eq!(
+        c::check(&in_order, NO_MEMORY, &slot),
+        c::check(&log, NO_MEMORY, &slot)
+    );
+    check_line(&mut report, &SHUFFLED, &log, NO_MEMORY, &slot, 0);
+    with_memory(&mut |shape, log, width| {
+        let mut slot = [0; 768];
+        if c::query(shape.kind, c::ROWS, 64, width, log, &mut slot).question == 0 {
+            check_line(&mut report, shape, log, width, &slot, 0);
+        }
+    });
 
     head("rows", 1);
     let sizes = [0, 6, 20, 64];

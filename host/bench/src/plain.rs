@@ -3,7 +3,8 @@
 //! Segments are found from event to event, the split table is filled with incremental block
 //! totals and left early, and the same questions are asked. The table has the paper's 64 times
 //! 256 entries, all 'no cut' at first. Equal records are found by comparing a record, as one
-//! number, with all before it. A slot is held to its log by walking rows and segments together.
+//! number, with all before it. A slot is held to its log by walking rows and segments together. With a
+//! memory a record counts in some frames behind its last one: its last frame is moved as it is read.
 //!
 //! There are two versions of the query. They differ in where a block's error comes from: [`Anew`]
 //! works it out whenever a candidate asks for it, [`Kept`] works each out once per query.
@@ -13,6 +14,9 @@ pub const MOST_KIND: u8 = 4;
 
 /// The kind of the greatest load, whose rows hold the greatest value of their block.
 const GREATEST: u8 = 3;
+
+/// The greatest width of a memory.
+const MOST_WIDTH: u16 = 4096;
 
 /// The second byte of a slot's header: rows by a bound.
 const BY_BOUND: u8 = 0x48;
@@ -178,15 +182,23 @@ fn try_without_twins(log: &[u8], buffer: &mut [u8]) -> Result<usize, No> {
     Ok(9 * count)
 }
 
-/// The records of one group, as columns; `end` is the frame after the last.
+/// Question 25.
+fn ask_width(width: u16) -> Result<(), No> {
+    if width == 0 || width > MOST_WIDTH {
+        return Err((25, 0));
+    }
+    Ok(())
+}
+
+/// The records of one group, as columns; `end` is the frame after the last in which a record counts.
 struct Columns {
     first: [i32; 128],
     end: [i32; 128],
     load: [i32; 128],
 }
 
-/// Finds the segments of an accepted log and gives their count.
-fn find_segments(log: &[u8], kind: u8, list: &mut [Segment; 255]) -> usize {
+/// Finds the segments of an accepted log, with a right width, and gives their count.
+fn find_segments(log: &[u8], kind: u8, width: u16, list: &mut [Segment; 255]) -> usize {
     let mut columns = Columns {
         first: [0; 128],
         end: [0; 128],
@@ -197,7 +209,7 @@ fn find_segments(log: &[u8], kind: u8, list: &mut [Segment; 255]) -> usize {
         let mut count = 0;
         for record in log.chunks_exact(9).filter(|record| record[2] == group) {
             columns.first[count] = i32::from(two(record, 3));
-            columns.end[count] = i32::from(two(record, 5)) + 1;
+            columns.end[count] = (i32::from(two(record, 5)) + i32::from(width)).min(65_536);
             columns.load[count] = i32::from(two(record, 7));
             count += 1;
         }
@@ -250,17 +262,17 @@ fn find_segments(log: &[u8], kind: u8, list: &mut [Segment; 255]) -> usize {
 }
 
 /// The segment call: question, index and count.
-pub fn segments(log: &[u8], kind: u8, list: &mut [Segment]) -> (u8, usize, usize) {
+pub fn segments(log: &[u8], kind: u8, width: u16, list: &mut [Segment]) -> (u8, usize, usize) {
     let Some(places) = list.first_chunk_mut::<255>() else {
         return (1, 0, 0);
     };
     if kind > MOST_KIND {
         return (2, 0, 0);
     }
-    if let Err((question, index)) = ask_log(log) {
+    if let Err((question, index)) = ask_width(width).and_then(|()| ask_log(log)) {
         return (question, index, 0);
     }
-    (0, 0, find_segments(log, kind, places))
+    (0, 0, find_segments(log, kind, width, places))
 }
 
 /// Where a query's block errors come from.
@@ -347,10 +359,11 @@ pub fn query(
     kind: u8,
     rule: u8,
     bound: u16,
+    width: u16,
     log: &[u8],
     slot: &mut [u8],
 ) -> QueryAnswer {
-    match try_query(blocks, kind, rule, bound, log, slot) {
+    match try_query(blocks, kind, rule, bound, width, log, slot) {
         Ok(answer) => answer,
         Err((question, index)) => QueryAnswer {
             question,
@@ -365,6 +378,7 @@ fn try_query(
     kind: u8,
     rule: u8,
     bound: u16,
+    width: u16,
     log: &[u8],
     slot: &mut [u8],
 ) -> Result<QueryAnswer, No> {
@@ -376,9 +390,10 @@ fn try_query(
     if !((limited && bound <= 64) || (rule == 0x45 && bound <= 1000)) {
         return Err((3, 0));
     }
+    ask_width(width)?;
     ask_log(log)?;
     let mut list = [Segment::default(); 255];
-    let n = find_segments(log, kind, &mut list);
+    let n = find_segments(log, kind, width, &mut list);
     let segments = &list[..n];
 
     let totals: Vec<Totals> = segments.iter().map(Totals::of).collect();
@@ -567,15 +582,16 @@ pub fn lookup(slot: &[u8], group: u8, frame: u16) -> (u8, usize, Option<u32>) {
 }
 
 /// A slot against its log: question and index.
-pub fn check(log: &[u8], slot: &[u8]) -> No {
-    match try_check(log, slot) {
+pub fn check(log: &[u8], width: u16, slot: &[u8]) -> No {
+    match try_check(log, width, slot) {
         Ok(()) => (0, 0),
         Err(no) => no,
     }
 }
 
-fn try_check(log: &[u8], slot: &[u8]) -> Result<(), No> {
+fn try_check(log: &[u8], width: u16, slot: &[u8]) -> Result<(), No> {
     let front = slot.first_chunk::<768>().ok_or((1, 0))?;
+    ask_width(width)?;
     ask_log(log)?;
     if front[1] == BY_WINDOWS {
         return Err((11, 0));
@@ -583,7 +599,7 @@ fn try_check(log: &[u8], slot: &[u8]) -> Result<(), No> {
     let (slot, rows) = ask_slot(front)?;
     let kind = slot[2];
     let mut list = [Segment::default(); 255];
-    let n = find_segments(log, kind, &mut list);
+    let n = find_segments(log, kind, width, &mut list);
 
     // A frame with its group above it.
     let place = |group: u8, frame: u16| u32::from(group) << 17 | u32::from(frame);

@@ -1,6 +1,7 @@
-//! A slot against its log. What a query writes by a bound passes with its log, in every order of the
-//! records; by windows it is refused by its header. Slots that are damaged or made otherwise are
-//! compared with the independent implementation, and none that passes is better than the query.
+//! A slot against its log. What a query writes by a bound passes with its log and the query's own width,
+//! in every order of the records; by windows it is refused by its header. Slots that are damaged or made
+//! otherwise, and slots with another width than their own, are compared with the independent
+//! implementation, and none that passes is better than the query.
 
 use crate::compare::{add_counts, named_counts, number, same};
 use crate::inputs;
@@ -23,29 +24,44 @@ pub enum Met {
     Finer,
     Otherwise,
     OtherwiseReordered,
-    /// Refused: for a short slot (1), for the log (4 to 9 and 21), for the slot (11 to 17), and by
-    /// 22, 23 and 24.
+    /// As a query with a memory of more than one frame wrote it.
+    Remembered,
+    /// As a query wrote it, with another width than its own: accepted, and refused by 22, 23 and 24.
+    OtherWidth,
+    OtherCover,
+    OtherBelow,
+    OtherError,
+    /// Refused: for a short slot (1), for the width (25), for the log (4 to 9 and 21), for the slot (11
+    /// to 17), and by 22, 23 and 24.
     Short,
+    WrongWidth,
     WrongLog,
     WrongSlot,
     Cover,
     Below,
     Error,
     /// A fitting list of a small log, of those with every cutting and many numbers, accepted or one
-    /// below a value of kind 3.
+    /// below a value of kind 3; and those accepted with a memory.
     List,
     ListBelow,
+    ListRemembered,
 }
 
 /// The names of what was met, in its order.
-const NAMES: [&str; 14] = [
+const NAMES: [&str; 21] = [
     "accepted as written",
     "accepted as written in another order",
     "by windows refused by 11",
     "accepted with rows cut finer",
     "accepted otherwise",
     "accepted finer or otherwise in another order",
+    "accepted as written with a memory",
+    "accepted with another width",
+    "with another width refused by 22",
+    "with another width refused by 23",
+    "with another width refused by 24",
     "refused by 1",
+    "refused by 25",
     "refused for the log",
     "refused for the slot",
     "refused by 22",
@@ -53,6 +69,7 @@ const NAMES: [&str; 14] = [
     "refused by 24",
     "accepted of all fitting lists",
     "refused by 23 of all fitting lists",
+    "accepted of all fitting lists with a memory",
 ];
 
 /// What was held to a log, and how often.
@@ -120,50 +137,57 @@ impl Checked {
     }
 }
 
-/// The question and index that the library gives, the same by the safe function.
-fn library(log: &[u8], slot: &[u8]) -> Result<(u8, usize), String> {
-    let answer = c::check(log, slot);
+/// The question and index that the library gives, the same by the safe functions: of the width 1 also by
+/// the one that takes none.
+fn library(log: &[u8], width: u16, slot: &[u8]) -> Result<(u8, usize), String> {
+    let answer = c::check(log, width, slot);
     let found = (answer.question, answer.index);
-    let safe = match pacer::check(log, slot) {
+    let numbers = |outcome| match outcome {
         Ok(()) => (0, 0),
-        Err(refusal) => (refusal.question, refusal.index),
+        Err(pacer::Refusal { question, index }) => (question, index),
     };
+    let safe = numbers(pacer::check_with_memory(log, width, slot));
     same("safe check", safe, found)?;
+    if width == c::ONE_FRAME {
+        let safe = numbers(pacer::check(log, slot));
+        same("safe check without a memory", safe, found)?;
+    }
     Ok(found)
 }
 
-/// A slot that passes is no better than the query's own answer with as many rows.
-fn no_better(log: &[u8], slot: &[u8]) -> Result<(), String> {
+/// A slot that passes is no better than the query's own answer of the same width with as many rows.
+fn no_better(log: &[u8], width: u16, slot: &[u8]) -> Result<(), String> {
     let read = c::read(slot);
     let mut best = [0; SLOT_BYTES];
-    let answer = c::query(read.kind, c::ROWS, read.rows as u16, log, &mut best);
+    let limit = read.rows as u16;
+    let answer = c::query(read.kind, c::ROWS, limit, width, log, &mut best);
     same("the query with as many rows", answer.question, 0)?;
     let better = read.rows < answer.rows || read.error < answer.error;
     same("a slot better than the query's", better, false)
 }
 
-/// Adds where two things differ: the bytes of both.
-fn context(log: &[u8], slot: &[u8], why: String) -> String {
+/// Adds where two things differ: the width, and the bytes of both.
+fn context(log: &[u8], width: u16, slot: &[u8], why: String) -> String {
     let hexadecimal = |bytes: &[u8]| -> String {
         let bytes = bytes.iter().map(|byte| format!("{byte:02x}"));
         bytes.collect()
     };
     let (log, slot) = (hexadecimal(log), hexadecimal(slot));
-    format!("a slot with its log: {why}; log {log}, slot {slot}")
+    format!("a slot with its log: {why}; width {width}, log {log}, slot {slot}")
 }
 
 /// Holds what the library says of a log and a slot to the independent implementation. Gives the
 /// question and the index.
-fn compared(log: &[u8], slot: &[u8]) -> Result<(u8, usize), String> {
+fn compared(log: &[u8], width: u16, slot: &[u8]) -> Result<(u8, usize), String> {
     let hold = || {
-        let expected = number(&reference::check(log, slot));
-        same("check", library(log, slot)?, expected)?;
+        let expected = number(&reference::check(log, width, slot));
+        same("check", library(log, width, slot)?, expected)?;
         if expected.0 == 0 {
-            no_better(log, slot)?;
+            no_better(log, width, slot)?;
         }
         Ok(expected)
     };
-    hold().map_err(|why| context(log, slot, why))
+    hold().map_err(|why| context(log, width, slot, why))
 }
 
 /// Counts what a log and a slot got that no query wrote.
@@ -172,6 +196,7 @@ fn count(question: u8, cut_finer: bool, slot: &[u8], counts: &mut Checked) {
         0 if cut_finer => Met::Finer,
         0 => Met::Otherwise,
         1 => Met::Short,
+        25 => Met::WrongWidth,
         4..=9 | 21 => Met::WrongLog,
         22 => Met::Cover,
         23 => Met::Below,
@@ -183,9 +208,9 @@ fn count(question: u8, cut_finer: bool, slot: &[u8], counts: &mut Checked) {
     }
 }
 
-/// Any log with any slot.
-pub fn any(log: &[u8], slot: &[u8], counts: &mut Checked) -> Result<(), String> {
-    let (question, _) = compared(log, slot)?;
+/// Any log with any slot and any width.
+pub fn any(log: &[u8], width: u16, slot: &[u8], counts: &mut Checked) -> Result<(), String> {
+    let (question, _) = compared(log, width, slot)?;
     count(question, false, slot, counts);
     Ok(())
 }
@@ -199,10 +224,44 @@ fn span(log: &[u8]) -> u64 {
     u64::from(last.saturating_sub(first)) + 1
 }
 
-/// The slot that a query wrote, with its log: by a bound it passes, in other orders of the records
-/// too; by windows it is refused by 11, and compared under the other header. So many slots are then
-/// made otherwise from one by a bound. Of logs over very many frames few are, since each frame is
-/// gone to.
+/// A slot that a query wrote with a width, and its log, with other widths: those beside it, without a
+/// memory, wrong ones, and seldom any.
+fn other_widths(
+    random: &mut Random,
+    log: &[u8],
+    width: u16,
+    slot: &[u8],
+    counts: &mut Checked,
+) -> Result<(), String> {
+    let beside = random.pick(&[width - 1, width + 1, width - 1, width + 1, c::ONE_FRAME]);
+    let small = random.range(1, 9) as u16;
+    let anywhere = random.range(1, 5000) as u16;
+    let other = match random.range(0, 99) {
+        0..=79 => beside,
+        80..=93 => small,
+        94..=96 => random.pick(&[0, 4097, 4098, 8192, 65_535]),
+        _ => random.pick(&[60, 4096, anywhere]),
+    };
+    if other == width {
+        return Ok(());
+    }
+    let (question, _) = compared(log, other, slot)?;
+    counts.add(match question {
+        0 => Met::OtherWidth,
+        22 => Met::OtherCover,
+        23 => Met::OtherBelow,
+        24 => Met::OtherError,
+        25 => Met::WrongWidth,
+        _ => return Err(format!("a slot with another width: question {question}")),
+    });
+    Ok(())
+}
+
+/// The slot that a query wrote, with its log: by a bound it passes with the query's own width, in other
+/// orders of the records too; by windows it is refused by 11, and compared under the other header. So
+/// many slots are then made otherwise from one by a bound, and every second one is held to its log with
+/// another width. Of logs over very many frames, and with a memory of very many, few are, since each
+/// frame is gone to.
 pub fn written(
     random: &Random,
     ask: Ask,
@@ -215,35 +274,51 @@ pub fn written(
         return Ok(());
     }
     let mut random = random.beside();
-    let at = |why| context(log, slot, why);
-    let seldom = span(log) > 2_000 && !random.percent(4);
+    let width = match ask {
+        Ask::Bound(_, _, width) => width,
+        // A query by windows has none; the check is asked with any.
+        Ask::Windows(_) => random.pick(&[1, 1, 1, 2, 5, 60]),
+    };
+    let at = |why| context(log, width, slot, why);
+    let seldom = match span(log) + u64::from(width) {
+        0..=2_001 => false,
+        2_002..=9_999 => !random.percent(15),
+        _ => !random.percent(4),
+    };
     if let Ask::Windows(_) = ask {
-        same("by windows", library(log, slot).map_err(at)?, (11, 0)).map_err(at)?;
+        let found = library(log, width, slot).map_err(at)?;
+        same("by windows", found, (11, 0)).map_err(at)?;
         counts.add(Met::ByWindows);
         if seldom || !random.percent(25) {
             return Ok(());
         }
         let mut other = slot.to_vec();
         other[1] = reference::BY_BOUND;
-        return any(log, &other, counts);
+        return any(log, width, &other, counts);
     }
-    let as_written = library(log, slot).map_err(at)?;
+    let as_written = library(log, width, slot).map_err(at)?;
     same("as written", as_written, (0, 0)).map_err(at)?;
-    no_better(log, slot).map_err(at)?;
+    no_better(log, width, slot).map_err(at)?;
     counts.add(Met::Written);
+    if width > c::ONE_FRAME {
+        counts.add(Met::Remembered);
+    }
     counts.written_kinds[usize::from(slot[2])] += 1;
     for (name, other) in order::orders(&mut random, log) {
-        let found = library(&other, slot)?;
-        same(name, found, (0, 0)).map_err(|why| context(&other, slot, why))?;
+        let found = library(&other, width, slot)?;
+        same(name, found, (0, 0)).map_err(|why| context(&other, width, slot, why))?;
         counts.add(Met::Reordered);
     }
     if seldom {
         return Ok(());
     }
+    if random.percent(50) {
+        other_widths(&mut random, log, width, slot, counts)?;
+    }
     let contents = reference::read(slot).map_err(|no| format!("the reference: {no:?}"))?;
-    let frames = reference::covered(&reference::records(log), contents.kind);
+    let frames = reference::covered(&reference::records(log), contents.kind, width);
     for _ in 0..others {
-        let made = made(&mut random, log, slot, &contents, &frames);
+        let made = made(&mut random, (log, width), slot, &contents, &frames);
         if made.log == log && made.slot.starts_with(&slot[..SLOT_BYTES]) {
             continue;
         }
@@ -252,15 +327,16 @@ pub fn written(
             slot,
             cut_finer,
         } = made;
-        let answer = compared(&log, &slot)?;
+        let answer = compared(&log, width, &slot)?;
         count(answer.0, cut_finer, &slot, counts);
         if matches!(answer.0, 4..=9 | 21) {
             continue;
         }
         // The answer does not depend on the order of a log that passes.
         for (name, other) in order::orders(&mut random, &log) {
-            let at = |why| context(&other, &slot, why);
-            same(name, library(&other, &slot).map_err(at)?, answer).map_err(at)?;
+            let at = |why| context(&other, width, &slot, why);
+            let found = library(&other, width, &slot).map_err(at)?;
+            same(name, found, answer).map_err(at)?;
             if answer.0 == 0 {
                 counts.add(Met::OtherwiseReordered);
             }
@@ -344,11 +420,11 @@ fn step(random: &mut Random, from: u32, most: u32) -> u32 {
     ])
 }
 
-/// One slot or log made from a slot that passes with its log, of which the contents and the covered
-/// frames with their values are given. Where there is nothing to change, both are as they were.
+/// One slot or log made from a slot that passes with its log and width, of which the contents and the
+/// covered frames with their values are given. Where there is nothing to change, both are as they were.
 fn made(
     random: &mut Random,
-    log: &[u8],
+    (log, width): (&[u8], u16),
     slot: &[u8],
     contents: &Contents,
     frames: &[Frame],
@@ -425,7 +501,7 @@ fn made(
         16 => {
             kind = random.range(0, u64::from(reference::MOST_KIND)) as u8;
             if random.percent(60) {
-                let frames = reference::covered(&reference::records(log), kind);
+                let frames = reference::covered(&reference::records(log), kind, width);
                 error = error_of(&rows, &frames);
             }
         }
@@ -495,7 +571,7 @@ fn due(kind: u8, rows: &[Stretch], error: u64, frames: &[Frame]) -> u8 {
 pub fn lists(
     random: &Random,
     kind: u8,
-    log: &[u8],
+    (log, width): (&[u8], u16),
     frames: &[Frame],
     numbers: u64,
     counts: &mut Checked,
@@ -508,6 +584,7 @@ pub fn lists(
     // By kind 0 every number fits.
     brute::each_list(frames, 0, &mut |list, error| {
         if outcome.is_ok() {
+            let log = (log, width);
             outcome = one_list(&mut random, kind, log, frames, (list, error), counts);
         }
     });
@@ -517,7 +594,7 @@ pub fn lists(
 fn one_list(
     random: &mut Random,
     kind: u8,
-    log: &[u8],
+    (log, width): (&[u8], u16),
     frames: &[Frame],
     (list, error): (&[brute::Part], u64),
     counts: &mut Checked,
@@ -536,8 +613,8 @@ fn one_list(
     }
     let hold = |rows: &[Stretch], error: u64, expected: u8| {
         let slot = reference::layout(reference::BY_BOUND, kind, error, rows);
-        let at = |why| context(log, &slot, why);
-        let found = library(log, &slot).map_err(at)?;
+        let at = |why| context(log, width, &slot, why);
+        let found = library(log, width, &slot).map_err(at)?;
         same("a list of rows", found, (expected, 0)).map_err(at)
     };
     let expected = due(kind, &rows, error, frames);
@@ -548,6 +625,9 @@ fn one_list(
     } else {
         Met::ListBelow
     });
+    if expected == 0 && width > c::ONE_FRAME {
+        counts.add(Met::ListRemembered);
+    }
     if random.percent(90) || rows.is_empty() {
         return Ok(());
     }

@@ -2,6 +2,7 @@
 
 use crate::check::{self, Checked};
 use crate::inputs;
+use crate::memory::Remembered;
 use crate::order::{self, Ask, Shuffled};
 use crate::random::Random;
 use crate::twins;
@@ -11,7 +12,7 @@ use reference::{Contents, Half, No, Reduction, Stretch};
 use std::fmt::Debug;
 
 /// How often each question was the first 'no', and at place 0 how often there was none.
-pub type ByQuestion = [u64; 25];
+pub type ByQuestion = [u64; 26];
 
 /// What was answered, over all calls.
 #[derive(Clone, Default)]
@@ -49,6 +50,13 @@ pub struct Seen {
     pub order: Shuffled,
     /// Slots held to their logs.
     pub checked: Checked,
+    /// What the widths of queries and of the segment call met; and how often a wrong one stood ahead of
+    /// a log that fails too, and behind something else that is wrong (1 to 3).
+    pub memory: Remembered,
+    pub width_ahead: u64,
+    pub width_behind: u64,
+    /// Logs of which the sum over records was held to the segments' sum, without a memory.
+    pub summed: u64,
 }
 
 impl Seen {
@@ -85,6 +93,10 @@ impl Seen {
         self.most_weighed = self.most_weighed.max(other.most_weighed);
         self.order.join(&other.order);
         self.checked.join(&other.checked);
+        self.memory.join(&other.memory);
+        self.width_ahead += other.width_ahead;
+        self.width_behind += other.width_behind;
+        self.summed += other.summed;
     }
 }
 
@@ -186,15 +198,28 @@ pub fn run(random: &mut Random, seen: &mut Seen) -> Result<(), String> {
     };
     inputs::damage_log(random, &mut log);
     let kind = inputs::kind(random);
+    let width = inputs::width(random, &records);
     twins::run(random, &log, seen)?;
 
-    let expected = segments(random, &log, kind, seen)?;
+    let expected = segments(random, &log, kind, width, seen)
+        .map_err(|why| format!("kind {kind}, width {width}: {why}"))?;
     let (rule, bound) = inputs::bound(random, &expected, kind);
-    let slot = query(random, kind, rule, bound, &log, seen)
-        .map_err(|why| format!("kind {kind}, rule {rule:#x}, bound {bound}: {why}"))?;
-    let passes = kind <= reference::MOST_KIND && reference::ask_log(&log).is_ok();
+    let ask = Ask::Bound(rule, bound, width);
+    let slot = query(random, kind, ask, &log, seen).map_err(|why| {
+        format!("kind {kind}, rule {rule:#x}, bound {bound}, width {width}: {why}")
+    })?;
+    let passes = kind <= reference::MOST_KIND
+        && reference::right_width(width)
+        && reference::ask_log(&log).is_ok();
     if passes && random.beside().percent(10) {
-        order::ends(random, kind, &log, &mut seen.order, &mut seen.checked)?;
+        order::ends(
+            random,
+            kind,
+            width,
+            &log,
+            &mut seen.order,
+            &mut seen.checked,
+        )?;
     }
 
     // The slot as the query left it; then that slot, or one that no query wrote, with some bytes
@@ -212,11 +237,12 @@ pub fn run(random: &mut Random, seen: &mut Seen) -> Result<(), String> {
     };
     inputs::damage_slot(random, &mut other);
     slot_calls(random, &other, seen)?;
-    check::any(&log, &other, &mut seen.checked)?;
-    if kind <= reference::MOST_KIND && reference::bounded(rule, bound) {
+    check::any(&log, width, &other, &mut seen.checked)?;
+    let right = reference::bounded(rule, bound) && reference::right_width(width);
+    if kind <= reference::MOST_KIND && right {
         halves(random, kind, &expected, rule, bound, seen)?;
     }
-    if kind == reference::GREATEST && reference::bounded(rule, bound) {
+    if kind == reference::GREATEST && right {
         let earlier = reference::reduce_by(&expected, 0, Half::Lower, rule, bound);
         earlier_slot(random, kind, &expected, rule, bound, earlier, seen)?;
     }
@@ -296,6 +322,7 @@ fn segments(
     random: &mut Random,
     log: &[u8],
     kind: u8,
+    width: u16,
     seen: &mut Seen,
 ) -> Result<Vec<Stretch>, String> {
     let places = inputs::length(random, 255);
@@ -311,9 +338,9 @@ fn segments(
         })
         .collect();
     let mut list = before.clone();
-    let answer = c::segments(log, kind, &mut list);
-    order::segments(random, kind, log, (answer, &list), &mut seen.order)?;
-    let outcome = reference::segments(log, kind, 255);
+    let answer = c::segments(log, kind, width, &mut list);
+    order::segments(random, kind, width, log, (answer, &list), &mut seen.order)?;
+    let outcome = reference::segments(log, kind, width, 255);
     let expected = if places < 255 {
         Err(No {
             question: 1,
@@ -333,15 +360,30 @@ fn segments(
             count: found.len(),
         },
     )?;
-    let mut after = before;
+    let mut after = before.clone();
     for (place, segment) in after.iter_mut().zip(&found) {
         *place = segment_of(segment);
     }
     same_places("list of segments", &list, &after)?;
     seen.segments[usize::from(question)] += 1;
+    if question == 0 {
+        seen.memory.count(width, &reference::records(log));
+    }
+    if width == c::ONE_FRAME {
+        // The safe function without a memory does the same.
+        let mut other = before;
+        let safe = pacer::segments(log, pacer::Kind(kind), &mut other).map(<[_]>::len);
+        let numbers = match safe {
+            Ok(count) => (0, 0, count),
+            Err(refusal) => (refusal.question, refusal.index, 0),
+        };
+        same("safe segments", numbers, (question, index, found.len()))?;
+        same_places("list of the safe function", &other, &after)?;
+    }
 
-    if kind == 0 && answer.question == 0 {
-        // The library's own segments against the records.
+    if kind == 0 && width == c::ONE_FRAME && answer.question == 0 {
+        // The library's own segments against the records; with a memory the sum is another one.
+        seen.summed += 1;
         let by_segment: u64 = list[..answer.count]
             .iter()
             .map(|s| frames(s.first, s.last) * u64::from(s.value))
@@ -364,9 +406,14 @@ fn frames(first: u16, last: u16) -> u64 {
 
 /// The paper's bound of the cuts that the library may weigh, from its own answers: K is the
 /// smaller of limit and n, and with a share the count of rows.
-fn most_weighed(kind: u8, rule: u8, bound: u16, log: &[u8], answer: &c::QueryAnswer) -> u64 {
+fn most_weighed(
+    kind: u8,
+    (rule, bound, width): (u8, u16, u16),
+    log: &[u8],
+    answer: &c::QueryAnswer,
+) -> u64 {
     let mut list = [c::Segment::default(); pacer::SEGMENT_PLACES];
-    let n = c::segments(log, kind, &mut list).count as u64;
+    let n = c::segments(log, kind, width, &mut list).count as u64;
     let tried = if rule == c::ROWS {
         u64::from(bound).min(n)
     } else {
@@ -375,25 +422,61 @@ fn most_weighed(kind: u8, rule: u8, bound: u16, log: &[u8], answer: &c::QueryAns
     tried.saturating_sub(1) * n * n.saturating_sub(1) / 2
 }
 
-/// The query call. Gives the slot that was lent, as the call left it.
+/// The safe function's query by a bound, where it knows the rule: the answer of the C function, and the
+/// same bytes. Of the width 1 also without a memory.
+fn safe_query(
+    kind: u8,
+    (rule, bound, width): (u8, u16, u16),
+    log: &[u8],
+    before: &[u8],
+    (answer, slot): (c::QueryAnswer, &[u8]),
+) -> Result<(), String> {
+    let bound = match rule {
+        c::ROWS => pacer::Rule::Rows(bound),
+        c::SHARE => pacer::Rule::Share(bound),
+        _ => return Ok(()),
+    };
+    let query = pacer::Query::new(pacer::Kind(kind), bound);
+    let mut asked = vec![query.with_memory(width)];
+    if width == c::ONE_FRAME {
+        asked.push(query);
+    }
+    for query in asked {
+        let mut other = before.to_vec();
+        let found = order::answer_of(pacer::query(query, log, &mut other));
+        same("safe query", found, answer)?;
+        same_places("slot of the safe query", &other, slot)?;
+    }
+    Ok(())
+}
+
+/// The query call by a bound. Gives the slot that was lent, as the call left it.
 fn query(
     random: &mut Random,
     kind: u8,
-    rule: u8,
-    bound: u16,
+    ask: Ask,
     log: &[u8],
     seen: &mut Seen,
 ) -> Result<Vec<u8>, String> {
+    let Ask::Bound(rule, bound, width) = ask else {
+        return Err("a query by windows".to_string());
+    };
     let length = inputs::length(random, 768);
     let before = random.bytes(length);
     let mut slot = before.clone();
-    let ask = Ask::Bound(rule, bound);
     let answer = ask.library(kind, log, &mut slot);
+    safe_query(kind, (rule, bound, width), log, &before, (answer, &slot))?;
     order::query(random, kind, ask, log, (answer, &slot), &mut seen.order)?;
     check::written(random, ask, log, (answer, &slot), 3, &mut seen.checked)?;
-    let expected = reference::query(kind, rule, bound, log, slot.len());
+    let expected = reference::query(kind, rule, bound, width, log, slot.len());
     let (question, index) = number(&expected);
     seen.query[usize::from(question)] += 1;
+    if question == 0 {
+        seen.memory.count(width, &reference::records(log));
+    } else if !reference::right_width(width) {
+        seen.width_behind += u64::from(question < 25);
+        seen.width_ahead += u64::from(question == 25 && reference::ask_log(log).is_err());
+    }
     match expected {
         Ok(reduction) => {
             same(
@@ -418,7 +501,7 @@ fn query(
             same("kind read back", profile.kind().0, kind)?;
             same("error read back", profile.error(), reduction.error)?;
             same_places("rows read back", &stretches(&profile), rows)?;
-            let most = most_weighed(kind, rule, bound, log, &answer);
+            let most = most_weighed(kind, (rule, bound, width), log, &answer);
             same("cuts within the bound", answer.weighed <= most, true)?;
             seen.most_rows = seen.most_rows.max(rows.len());
             seen.most_weighed = seen.most_weighed.max(reduction.weighed);

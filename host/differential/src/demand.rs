@@ -1,8 +1,10 @@
-//! Demand 3 for the proved library, against every fitting list of a small log.
+//! Demand 3 for the proved library, against every fitting list of a small log, with a memory and
+//! without.
 
 use crate::check::{self, Checked};
 use crate::compare::{same, stretches};
 use crate::inputs::{self, Fields};
+use crate::memory::Remembered;
 use crate::order::{self, Ask, Shuffled};
 use crate::random::Random;
 use pacer::{c, Bound, Kind, Query};
@@ -14,24 +16,40 @@ use reference::Stretch;
 pub struct Tried {
     pub queries: u64,
     pub refused: u64,
+    /// The same of queries with a memory of more than one frame.
+    pub remembered: u64,
+    pub remembered_refused: u64,
     /// Rows for which two numbers are equally good, by kind.
     pub halves: [u64; 5],
     /// Logs in another order.
     pub order: Shuffled,
     /// Slots held to their logs.
     pub checked: Checked,
+    /// What the widths met.
+    pub memory: Remembered,
 }
 
 impl Tried {
     pub fn join(&mut self, other: &Tried) {
         self.queries += other.queries;
         self.refused += other.refused;
+        self.remembered += other.remembered;
+        self.remembered_refused += other.remembered_refused;
         for (a, b) in self.halves.iter_mut().zip(&other.halves) {
             *a += b;
         }
         self.order.join(&other.order);
         self.checked.join(&other.checked);
+        self.memory.join(&other.memory);
     }
+}
+
+/// A log with a kind and a width, and its covered frames with their values.
+struct Asked<'a> {
+    kind: u8,
+    width: u16,
+    log: &'a [u8],
+    frames: &'a [Frame],
 }
 
 /// What the library writes and reads back: the rows and the error, or the question.
@@ -40,20 +58,19 @@ type Outcome = Result<(Vec<Stretch>, u64), u8>;
 /// The library's outcome for a bound, the same in every order of the log.
 fn outcome(
     random: &Random,
-    kind: u8,
+    asked: &Asked,
     bound: Bound,
-    log: &[u8],
     tried: &mut Tried,
 ) -> Result<Outcome, String> {
+    let &Asked {
+        kind, width, log, ..
+    } = asked;
     let mut slot = [0; pacer::SLOT_BYTES];
-    let query = Query {
-        kind: Kind(kind),
-        bound,
-    };
+    let query = Query::new(Kind(kind), bound).with_memory(width);
     let found = pacer::query(query, log, &mut slot);
     let ask = match bound {
-        Bound::Rows(limit) => Ask::Bound(c::ROWS, limit),
-        Bound::Share(share) => Ask::Bound(c::SHARE, share),
+        Bound::Rows(limit) => Ask::Bound(c::ROWS, limit, width),
+        Bound::Share(share) => Ask::Bound(c::SHARE, share, width),
         _ => return Err("a rule that is no bound".to_string()),
     };
     let answer = order::answer_of(found);
@@ -93,25 +110,27 @@ fn fitting(
     Ok(())
 }
 
-/// Holds the library's answer to the error and row count of the best list, and to question 10 if there is none. Gives the rows.
+/// Holds the library's answer to the error and row count of the best list, and to question 10 if there
+/// is none. Gives the rows.
 fn hold(
     random: &Random,
-    kind: u8,
+    asked: &Asked,
     bound: Bound,
-    log: &[u8],
-    frames: &[Frame],
     best: Option<(u64, usize)>,
     tried: &mut Tried,
 ) -> Result<Option<Vec<Stretch>>, String> {
+    let remembered = u64::from(asked.width > c::ONE_FRAME);
     tried.queries += 1;
-    match (outcome(random, kind, bound, log, tried)?, best) {
+    tried.remembered += remembered;
+    match (outcome(random, asked, bound, tried)?, best) {
         (Ok((rows, error)), Some(best)) => {
             same("error and row count", (error, rows.len()), best)?;
-            fitting(kind, &rows, error, frames, tried)?;
+            fitting(asked.kind, &rows, error, asked.frames, tried)?;
             Ok(Some(rows))
         }
         (Err(question), None) => {
             tried.refused += 1;
+            tried.remembered_refused += remembered;
             same("no list answers the bound", question, 10)?;
             Ok(None)
         }
@@ -122,10 +141,8 @@ fn hold(
 /// A row limit: `least` has the least error of the fitting lists of exactly k rows at place k.
 fn limit(
     random: &Random,
-    kind: u8,
+    asked: &Asked,
     c: u16,
-    log: &[u8],
-    frames: &[Frame],
     least: &[Option<u64>],
     tried: &mut Tried,
 ) -> Result<Option<Vec<Stretch>>, String> {
@@ -135,16 +152,14 @@ fn limit(
         .enumerate()
         .filter_map(|(rows, error)| error.map(|error| (error, rows)))
         .min();
-    hold(random, kind, Bound::Rows(c), log, frames, best, tried)
+    hold(random, asked, Bound::Rows(c), best, tried)
 }
 
 /// A share of the least error at the fewest rows.
 fn share(
     random: &Random,
-    kind: u8,
+    asked: &Asked,
     p: u16,
-    log: &[u8],
-    frames: &[Frame],
     least: &[Option<u64>],
     tried: &mut Tried,
 ) -> Result<Option<Vec<Stretch>>, String> {
@@ -159,17 +174,30 @@ fn share(
         let (error, most) = ((*error)?, most?);
         (u128::from(error) * 1000 <= most).then_some((error, rows))
     });
-    hold(random, kind, Bound::Share(p), log, frames, best, tried)
+    hold(random, asked, Bound::Share(p), best, tried)
 }
 
-/// One small log with all limits that matter and several shares.
+/// One small log with all limits that matter and several shares, half of them with a memory of a few
+/// frames. Its frames are gone through one by one, and from each as many back as the width says.
 pub fn run_small(random: &mut Random, tried: &mut Tried) -> Result<(), String> {
-    let records = small_records(random);
+    let width = random.pick(&[1, 1, 1, 1, 1, 2, 2, 3, 4, 7]);
+    let base = if random.percent(20) {
+        65_536 - 10
+    } else {
+        random.range(0, 3)
+    };
+    let records = small_records(random, base, width);
     let log = inputs::log_of(&records);
     let kind = random.range(0, u64::from(reference::MOST_KIND)) as u8;
     let decoded = reference::records(&log);
-    let frames = reference::covered(&decoded, kind);
-    let segments = reference::segments_of(&decoded, kind);
+    // Ten frames from the base on have records, and some behind them remember those.
+    let last = (base + 20).min(65_535) as u16;
+    let frames = brute::covered_by_frames(&decoded, kind, width, base as u16..=last);
+    let covered = reference::covered(&decoded, kind, width);
+    // A test of the reference and not of the library.
+    assert_eq!(covered, frames, "{records:?}, width {width}");
+    let segments = reference::segments_of(&decoded, kind, width);
+    tried.memory.count(width, &decoded);
 
     let least = brute::least_by_cuttings(&frames, kind);
     // At most so many numbers are tried for a row, and there are no more rows than frames.
@@ -179,10 +207,17 @@ pub fn run_small(random: &mut Random, tried: &mut Tried) -> Result<(), String> {
         // number each are those by every combination of numbers.
         assert_eq!(brute::least_by_lists(&frames, kind), least, "{records:?}");
     }
-    let context = |why| format!("records {records:?}, kind {kind}: {why}");
-    check::lists(random, kind, &log, &frames, numbers, &mut tried.checked).map_err(context)?;
+    let context = |why| format!("records {records:?}, kind {kind}, width {width}: {why}");
+    let held = (&log[..], width);
+    check::lists(random, kind, held, &frames, numbers, &mut tried.checked).map_err(context)?;
+    let asked = Asked {
+        kind,
+        width,
+        log: &log,
+        frames: &frames,
+    };
     for c in 0..=frames.len() as u16 + 1 {
-        let rows = limit(random, kind, c, &log, &frames, &least, tried)
+        let rows = limit(random, &asked, c, &least, tried)
             .map_err(|why| context(format!("limit {c}: {why}")))?;
         if let Some(rows) = rows {
             let chosen = brute::best_cutting(&segments, kind, usize::from(c), false);
@@ -200,7 +235,7 @@ pub fn run_small(random: &mut Random, tried: &mut Tried) -> Result<(), String> {
     shares.sort_unstable();
     shares.dedup();
     for p in shares {
-        let rows = share(random, kind, p as u16, &log, &frames, &least, tried)
+        let rows = share(random, &asked, p as u16, &least, tried)
             .map_err(|why| context(format!("share {p}: {why}")))?;
         if let Some(rows) = rows {
             let chosen = brute::best_cutting(&segments, kind, rows.len(), true);
@@ -210,17 +245,12 @@ pub fn run_small(random: &mut Random, tried: &mut Tried) -> Result<(), String> {
     Ok(())
 }
 
-/// Records that cover at most ten frames.
-fn small_records(random: &mut Random) -> Vec<Fields> {
+/// Records of ten frames from a base on that cover, with a memory, at most ten frames.
+fn small_records(random: &mut Random, base: u64, width: u16) -> Vec<Fields> {
     let groups: Vec<u8> = match random.range(0, 3) {
         0 | 1 => vec![random.range(0, 7) as u8],
         2 => vec![0, 7],
         _ => vec![1, 2, 5],
-    };
-    let base = if random.percent(15) {
-        65_536 - 10
-    } else {
-        random.range(0, 3)
     };
     let greatest = match random.range(0, 39) {
         0 => 1000,
@@ -239,13 +269,17 @@ fn small_records(random: &mut Random) -> Vec<Fields> {
             random.range(0, greatest) as u16,
         );
         records.push(record);
-        let covered = reference::covered(&reference::records(&inputs::log_of(&records)), 1).len();
-        if covered > 10 {
+        let decoded = reference::records(&inputs::log_of(&records));
+        if reference::covered(&decoded, 1, width).len() > 10 {
             records.pop();
         } else if random.percent(10) {
             // The same frames with another load.
             let (group, first, last, _) = record;
             records.push((group, first, last, random.range(0, greatest) as u16));
+        } else if random.percent(10) {
+            // The same but for the last frame.
+            let (group, first, last, load) = record;
+            records.push((group, first, last.saturating_sub(1).max(first), load));
         }
     }
     inputs::distinct(records)
@@ -259,6 +293,8 @@ pub fn run_many(random: &mut Random, tried: &mut Tried) -> Result<(), String> {
     let greatest = random.range(1, if kind == 4 { 2 } else { 9 });
     // One run, a few runs, or almost as many runs as frames.
     let apart = random.pick(&[0, 2, 10, 60, 95]);
+    // Frames further apart than the memory reaches begin a run of their own.
+    let width = random.pick(&[1, 1, 1, 2, 3]);
     let mut frame = random.range(0, 5) as u16;
     let mut group = 0;
     let records: Vec<Fields> = (0..count)
@@ -266,17 +302,23 @@ pub fn run_many(random: &mut Random, tried: &mut Tried) -> Result<(), String> {
             if random.percent(2) && group < 7 {
                 group += 1;
             }
-            frame += if random.percent(apart) { 2 } else { 1 };
+            frame += if random.percent(apart) { 1 + width } else { 1 };
             (group, frame, frame, random.range(0, greatest) as u16)
         })
         .collect();
     let log = inputs::log_of(&records);
     let decoded = reference::records(&log);
-    let frames = reference::covered(&decoded, kind);
+    let frames = reference::covered(&decoded, kind, width);
     let least = brute::least_by_table(&frames, kind, 64);
     // The fewest rows of any list, also where they are more than 64.
-    let m = reference::runs(&reference::segments_of(&decoded, kind)) as u64;
-    let context = |why| format!("records {records:?}, kind {kind}: {why}");
+    let m = reference::runs(&reference::segments_of(&decoded, kind, width)) as u64;
+    let context = |why| format!("records {records:?}, kind {kind}, width {width}: {why}");
+    let asked = Asked {
+        kind,
+        width,
+        log: &log,
+        frames: &frames,
+    };
 
     for c in [
         random.range(0, 64),
@@ -284,11 +326,11 @@ pub fn run_many(random: &mut Random, tried: &mut Tried) -> Result<(), String> {
         m.min(64),
         m.saturating_sub(1).min(64),
     ] {
-        limit(random, kind, c as u16, &log, &frames, &least, tried)
+        limit(random, &asked, c as u16, &least, tried)
             .map_err(|why| context(format!("limit {c}: {why}")))?;
     }
     for p in [0, 1000, random.range(0, 10), random.range(0, 1000)] {
-        share(random, kind, p as u16, &log, &frames, &least, tried)
+        share(random, &asked, p as u16, &least, tried)
             .map_err(|why| context(format!("share {p}: {why}")))?;
     }
     Ok(())

@@ -95,8 +95,25 @@ pub fn records(random: &mut Random) -> Vec<Fields> {
 /// The same, where two records may be equal.
 fn shape(random: &mut Random) -> Vec<Fields> {
     match random.range(0, 999) {
+        // Small loads that last to the last frame of all, and others within them: covered frames are the
+        // same with every width.
+        0..=39 => {
+            let groups = some_groups(random);
+            let (count, span) = (random.range(1, 6), random.range(2, 60));
+            let base = 65_536 - span;
+            let within = spread(random, count, base, span, &groups);
+            let lasting = groups.iter().map(|group| {
+                let load = random.pick(&[0, 1, 150]);
+                (*group, base as u16, 65_535, load)
+            });
+            lasting
+                .collect::<Vec<_>>()
+                .into_iter()
+                .chain(within)
+                .collect()
+        }
         // A few records, near each other.
-        0..=449 => {
+        40..=449 => {
             let groups = some_groups(random);
             let (count, span) = (random.range(0, 8), random.range(1, 24));
             spread(random, count, 0, span, &groups)
@@ -331,6 +348,44 @@ pub fn kind(random: &mut Random) -> u8 {
         random.pick(&[5, 6, 128, 255])
     } else {
         random.range(0, u64::from(reference::MOST_KIND)) as u8
+    }
+}
+
+/// A width for some records, most often without a memory or with a short one; often just as long as a
+/// gap between two records or as the frames behind one, one less or one more; and sometimes one that
+/// there is not. Long ones are rare: they take the independent implementation long.
+pub fn width(random: &mut Random, records: &[Fields]) -> u16 {
+    let near = |number: u64, random: &mut Random| {
+        let width = random.range(number.saturating_sub(1), number + 1);
+        width.clamp(1, 4096) as u16
+    };
+    match random.range(0, 999) {
+        0..=399 => 1,
+        400..=599 => random.range(2, 9) as u16,
+        // As long as a gap, one less or one more: the frames between two records of a group.
+        600..=749 if records.len() > 1 => {
+            let (group, _, last, _) = random.pick(records);
+            let behind = records
+                .iter()
+                .filter(|other| other.0 == group && other.1 > last);
+            match behind.map(|other| other.1 - last).min() {
+                Some(step) => near(u64::from(step), random),
+                None => random.range(2, 9) as u16,
+            }
+        }
+        // As many frames as there are from a record's last one on, that included.
+        750..=819 if !records.is_empty() => {
+            let (_, _, last, _) = random.pick(records);
+            match 65_536 - u64::from(last) {
+                frames @ 1..=200 => near(frames, random),
+                _ => random.range(2, 30) as u16,
+            }
+        }
+        600..=899 => random.pick(&[2, 3, 10, 30, 59, 60, 61, 120]),
+        900..=939 => random.range(10, 200) as u16,
+        940..=949 => random.pick(&[4095, 4096, 4096]),
+        950..=954 => random.range(1, 4096) as u16,
+        _ => random.pick(&[0, 0, 4097, 4097, 4098, 8192, 32_768, 65_535]),
     }
 }
 

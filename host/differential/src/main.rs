@@ -6,9 +6,10 @@
 //! 20,000) against every fitting list, some logs of many frames against a table over their
 //! frames, for every row count the slots with one bit of the tail set, fixed logs with windows at
 //! the edges of what is allowed, as many small logs as above by windows gone through frame by
-//! frame, and long logs with twins at every two places. Every log that is run through a query or
-//! the segment call is run again with its records in another order, and every slot that a query
-//! writes is held to its log, as it is and made otherwise. The seed is fixed unless one is given, and
+//! frame, and long logs with twins at every two places. Queries by a bound, the segment call and the
+//! check of a slot have widths of all kinds, right and wrong, most often 1. Every log that is run
+//! through a query or the segment call is run again with its records in another order, and every slot
+//! that a query writes is held to its log, as it is and made otherwise, and with other widths. The seed is fixed unless one is given, and
 //! is printed. A difference is printed with the words that run its case alone, and the status is
 //! then 1.
 
@@ -18,6 +19,7 @@ mod check;
 mod compare;
 mod demand;
 mod inputs;
+mod memory;
 mod order;
 mod random;
 mod tails;
@@ -27,6 +29,7 @@ mod windows;
 use check::Checked;
 use compare::{ByQuestion, Seen};
 use demand::Tried;
+use memory::Remembered;
 use order::{Met, Shuffled};
 use random::Random;
 use std::process::ExitCode;
@@ -109,6 +112,13 @@ impl Counts {
         let mut all = self.seen.order;
         all.join(&self.tried.order);
         all.join(&self.gone.order);
+        all
+    }
+
+    /// What the widths of queries and of the segment call met.
+    fn memory(&self) -> Remembered {
+        let mut all = self.seen.memory;
+        all.join(&self.tried.memory);
         all
     }
 
@@ -240,9 +250,13 @@ fn unreached(seen: &Seen) -> Vec<String> {
         (
             "query",
             &seen.query,
-            &[0, 1, 2, 3, 4, 5, 6, 7, 8, 9, 10, 21],
+            &[0, 1, 2, 3, 4, 5, 6, 7, 8, 9, 10, 21, 25],
         ),
-        ("segments", &seen.segments, &[0, 1, 2, 4, 5, 6, 7, 8, 9, 21]),
+        (
+            "segments",
+            &seen.segments,
+            &[0, 1, 2, 4, 5, 6, 7, 8, 9, 21, 25],
+        ),
         ("log on file", &seen.file, &[0, 1, 4, 5, 6, 7, 8, 9]),
         ("slot", &seen.slot, &[0, 1, 7, 11, 12, 13, 14, 15, 16, 17]),
         ("record", &seen.record, &[0, 1, 7, 8, 9]),
@@ -261,6 +275,9 @@ fn unreached(seen: &Seen) -> Vec<String> {
         ("a log with twins on file", seen.cleaned),
         ("a bad record behind a twin", seen.bad_after),
         ("a twin behind a bad record", seen.bad_before),
+        ("a wrong width ahead of a wrong log", seen.width_ahead),
+        ("a wrong width behind 1, 2 or 3", seen.width_behind),
+        ("a sum over records", seen.summed),
     ];
     missing.extend(
         features
@@ -279,6 +296,7 @@ fn unreached_in_order(part: Part, order: &Shuffled) -> Vec<String> {
             order.missing_by_bound(&[0, 1, 2, 3, 4]),
             order.missing_by_windows(),
             order.missing(&[Met::Segments, Met::TooMany]),
+            order.missing(&[Met::SegmentsMemory, Met::WrongWidth]),
             order.missing(&logs),
         ]
         .concat(),
@@ -297,6 +315,30 @@ fn unreached_in_order(part: Part, order: &Shuffled) -> Vec<String> {
     }
 }
 
+/// What the widths of a part met too rarely; `cases` is how many cases it had.
+fn unreached_with_memory(part: Part, cases: u64, memory: &Remembered) -> Vec<String> {
+    use memory::Met::*;
+    // Of each in every hundred cases at least one, and of what is rare in every thousand. Small logs have
+    // few frames for all that can be.
+    let (often, seldom) = (cases / 100, cases / 1000);
+    match part {
+        Part::Random => [
+            memory.missing(&[One, Few, Second, Closed, JustOpen, CutOff, AtZero], often),
+            memory.missing(&[Many, Most, JustReached, Alike], seldom),
+        ]
+        .concat(),
+        Part::Small => [
+            memory.missing(&[One, Few], often),
+            memory.missing(
+                &[Closed, JustOpen, CutOff, AtZero, JustReached, Alike],
+                seldom,
+            ),
+        ]
+        .concat(),
+        _ => Vec::new(),
+    }
+}
+
 /// What the slots of a part, held to their logs, got too rarely; `cases` is how many cases it had.
 fn unreached_in_check(part: Part, cases: u64, checked: &Checked) -> Vec<String> {
     use check::Met::*;
@@ -309,18 +351,24 @@ fn unreached_in_check(part: Part, cases: u64, checked: &Checked) -> Vec<String> 
         Part::Random => [
             checked.missing(&by_bound, often),
             checked.missing(&[OtherwiseReordered, Below, Short, ByWindows], often),
+            checked.missing(&[Remembered, WrongWidth, OtherCover, OtherWidth], often),
+            checked.missing(&[OtherBelow, OtherError], cases / 2000),
             checked.missing_kinds(&[0, 1, 2, 3, 4]),
         ]
         .concat(),
         Part::Small => [
             checked.missing(&by_bound, often),
             checked.missing(&[OtherwiseReordered, Below, List, ListBelow], often),
+            checked.missing(&[Remembered, ListRemembered, OtherCover, OtherError], often),
+            checked.missing(&[OtherWidth, WrongWidth], often),
+            checked.missing(&[OtherBelow], cases / 1000),
             checked.missing_kinds(&[0, 1, 2, 3, 4]),
         ]
         .concat(),
         // There are no logs of counts among them.
         Part::Many => [
             checked.missing(&by_bound, often),
+            checked.missing(&[Remembered, OtherCover], often),
             checked.missing_kinds(&[0, 2, 3, 4]),
         ]
         .concat(),
@@ -445,6 +493,10 @@ fn main() -> ExitCode {
                     "  by kind, rows risen at a half {:?}, slots of before with other rows {:?}",
                     seen.halves, seen.earlier
                 );
+                println!(
+                    "  a wrong width ahead of a wrong log {}, behind 1, 2 or 3 {}; sums over records held to segments {}",
+                    seen.width_ahead, seen.width_behind, seen.summed
+                );
                 let missing = unreached(seen);
                 if cases >= CASES && !missing.is_empty() {
                     println!("no case gave: {}", missing.join(", "));
@@ -457,17 +509,35 @@ fn main() -> ExitCode {
                     "{cases} small logs against every fitting list, {} queries, {} refused: no difference ({seconds:.1} s)",
                     tried.queries, tried.refused
                 );
+                println!(
+                    "  with a memory {} queries, {} refused",
+                    tried.remembered, tried.remembered_refused
+                );
                 println!("  rows with two equally good numbers, by kind {:?}", tried.halves);
-                let missing = without_halves(&tried.halves);
+                let mut missing = without_halves(&tried.halves);
+                if tried.remembered < cases || tried.remembered_refused < cases / 100 {
+                    missing.push("enough queries with a memory".to_string());
+                }
                 if !missing.is_empty() {
                     println!("no case gave: {}", missing.join(", "));
                     return ExitCode::FAILURE;
                 }
             }
-            Part::Many => println!(
-                "{cases} logs against a table over their frames, {} queries, {} refused: no difference ({seconds:.1} s)",
-                counts.tried.queries, counts.tried.refused
-            ),
+            Part::Many => {
+                let tried = &counts.tried;
+                println!(
+                    "{cases} logs against a table over their frames, {} queries, {} refused: no difference ({seconds:.1} s)",
+                    tried.queries, tried.refused
+                );
+                println!(
+                    "  with a memory {} queries, {} refused",
+                    tried.remembered, tried.remembered_refused
+                );
+                if tried.remembered < cases || tried.remembered_refused < cases / 100 {
+                    println!("no case gave: enough queries with a memory");
+                    return ExitCode::FAILURE;
+                }
+            }
             Part::Tails => {
                 let (accepted, refused) = (counts.seen.slot[0], counts.seen.slot[17]);
                 println!(
@@ -511,11 +581,13 @@ fn main() -> ExitCode {
         }
         // Slots alone have no order and no log.
         if part != Part::Tails {
-            let (order, checked) = (counts.order(), counts.checked());
+            let (order, checked, memory) = (counts.order(), counts.checked(), counts.memory());
             order.print();
             checked.print();
+            memory.print();
             let mut missing = unreached_in_order(part, &order);
             missing.extend(unreached_in_check(part, cases, &checked));
+            missing.extend(unreached_with_memory(part, cases, &memory));
             if (part != Part::Random || cases >= CASES) && !missing.is_empty() {
                 println!("no case gave: {}", missing.join(", "));
                 return ExitCode::FAILURE;

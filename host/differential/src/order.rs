@@ -15,11 +15,15 @@ pub enum Met {
     ByBound,
     ByBeats,
     ByScenes,
+    /// Accepted with a memory of more than one frame: by the segment call, and by a bound.
+    SegmentsMemory,
+    ByBoundMemory,
     /// Refused in every order: too few rows (10) or too many (20), for what was asked (2, 3, 18, 19),
-    /// or for the log (4 to 9 and 21).
+    /// for the width (25), or for the log (4 to 9 and 21).
     TooFew,
     TooMany,
     AskedWrong,
+    WrongWidth,
     WrongLog,
     /// On a log of 128 records that passes its questions.
     Longest,
@@ -34,14 +38,17 @@ pub enum Met {
 }
 
 /// The names of what was met, in its order.
-const NAMES: [&str; 14] = [
+const NAMES: [&str; 17] = [
     "accepted by the segment call",
     "accepted by a bound",
     "accepted by beats",
     "accepted by scenes",
+    "accepted by the segment call with a memory",
+    "accepted by a bound with a memory",
     "refused with 10",
     "refused with 20",
     "refused for what is asked",
+    "refused for the width",
     "refused for the log",
     "of 128 records",
     "with a limit equal to the runs",
@@ -86,6 +93,7 @@ impl Shuffled {
     pub fn missing_by_bound(&self, kinds: &[u8]) -> Vec<String> {
         let mut missing = self.missing(&[
             Met::ByBound,
+            Met::ByBoundMemory,
             Met::TooFew,
             Met::Fewest,
             Met::BelowFewest,
@@ -130,15 +138,15 @@ fn kinds_missing(what: &str, counts: &[u64; 5], kinds: &[u8]) -> Vec<String> {
 /// What a query asks, but for its kind.
 #[derive(Clone, Copy)]
 pub enum Ask<'a> {
-    /// Rule and bound.
-    Bound(u8, u16),
+    /// Rule, bound and width.
+    Bound(u8, u16, u16),
     Windows(&'a Windows),
 }
 
 impl Ask<'_> {
     pub fn library(&self, kind: u8, log: &[u8], slot: &mut [u8]) -> c::QueryAnswer {
         match self {
-            Ask::Bound(rule, bound) => c::query(kind, *rule, *bound, log, slot),
+            Ask::Bound(rule, bound, width) => c::query(kind, *rule, *bound, *width, log, slot),
             Ask::Windows(windows) => windows.library(kind, log, slot),
         }
     }
@@ -223,9 +231,9 @@ fn context(name: &str, log: &[u8], why: String) -> String {
 }
 
 /// The numbers of segments and of runs that the library finds in a log.
-fn segments_and_runs(kind: u8, log: &[u8]) -> (usize, usize) {
+fn segments_and_runs(kind: u8, width: u16, log: &[u8]) -> (usize, usize) {
     let mut list = [c::Segment::default(); SEGMENT_PLACES];
-    let count = c::segments(log, kind, &mut list).count;
+    let count = c::segments(log, kind, width, &mut list).count;
     let apart = |pair: &&[c::Segment]| {
         pair[0].group != pair[1].group || u32::from(pair[0].last) + 1 != u32::from(pair[1].first)
     };
@@ -248,12 +256,14 @@ fn count(
         10 => counts.add(Met::TooFew, true),
         20 => counts.add(Met::TooMany, true),
         4..=9 | 21 => return counts.add(Met::WrongLog, true),
+        25 => return counts.add(Met::WrongWidth, true),
         _ => return counts.add(Met::AskedWrong, true),
     }
     counts.add(Met::Longest, log.len() == RECORDS * RECORD_BYTES);
     match ask {
-        Ask::Bound(rule, bound) => {
+        Ask::Bound(rule, bound, width) => {
             counts.add(Met::ByBound, accepted);
+            counts.add(Met::ByBoundMemory, accepted && width > c::ONE_FRAME);
             counts.bound_kinds[usize::from(kind)] += u64::from(accepted);
             if segments == runs {
                 return;
@@ -302,7 +312,7 @@ pub fn query(
         return query(&random, kind, ask, log, (answer, &slot), counts);
     }
     let sizes = match (ask, answer.question) {
-        (Ask::Bound(..), 0 | 10) => segments_and_runs(kind, log),
+        (Ask::Bound(_, _, width), 0 | 10) => segments_and_runs(kind, width, log),
         _ => (0, 0),
     };
     for (name, other) in orders {
@@ -335,6 +345,7 @@ pub fn query(
 pub fn segments(
     random: &Random,
     kind: u8,
+    width: u16,
     log: &[u8],
     (answer, list): (c::SegmentsAnswer, &[c::Segment]),
     counts: &mut Shuffled,
@@ -346,8 +357,8 @@ pub fn segments(
     }
     if list.len() < SEGMENT_PLACES {
         let mut list = [c::Segment::default(); SEGMENT_PLACES];
-        let answer = c::segments(log, kind, &mut list);
-        return segments(&random, kind, log, (answer, &list), counts);
+        let answer = c::segments(log, kind, width, &mut list);
+        return segments(&random, kind, width, log, (answer, &list), counts);
     }
     for (name, other) in orders {
         let noise = random.next();
@@ -359,7 +370,7 @@ pub fn segments(
         };
         let length = random.pick(&[SEGMENT_PLACES, SEGMENT_PLACES, SEGMENT_PLACES + 1, 300]);
         let mut found = vec![blank; length];
-        let again = c::segments(&other, kind, &mut found);
+        let again = c::segments(&other, kind, width, &mut found);
         let hold = || {
             let (question, index) = due(answer.question, answer.index, &other)?;
             let expected = c::SegmentsAnswer {
@@ -376,26 +387,30 @@ pub fn segments(
         let what = match answer.question {
             0 => Met::Segments,
             2 => Met::AskedWrong,
+            25 => Met::WrongWidth,
             _ => Met::WrongLog,
         };
         counts.add(what, true);
+        let memory = answer.question == 0 && width > c::ONE_FRAME;
+        counts.add(Met::SegmentsMemory, memory);
         let longest = log.len() == RECORDS * RECORD_BYTES;
         counts.add(Met::Longest, answer.question == 0 && longest);
     }
     Ok(())
 }
 
-/// Both ends of the reduction of a log that passes its questions: the fewest rows and one below
-/// them, as many as there are segments or as a slot holds, and the least and the greatest shares.
-/// What is written there is held to the log too.
+/// Both ends of the reduction of a log that passes its questions, with a right width: the fewest rows
+/// and one below them, as many as there are segments or as a slot holds, and the least and the greatest
+/// shares. What is written there is held to the log too.
 pub fn ends(
     random: &Random,
     kind: u8,
+    width: u16,
     log: &[u8],
     counts: &mut Shuffled,
     checked: &mut Checked,
 ) -> Result<(), String> {
-    let (segments, runs) = segments_and_runs(kind, log);
+    let (segments, runs) = segments_and_runs(kind, width, log);
     let limits = [runs, runs.wrapping_sub(1), segments, pacer::ROWS];
     let bounds = limits
         .into_iter()
@@ -403,12 +418,14 @@ pub fn ends(
         .map(|limit| (c::ROWS, limit as u16))
         .chain([0, 1, 999, 1000].map(|share| (c::SHARE, share)));
     for (rule, bound) in bounds {
-        let ask = Ask::Bound(rule, bound);
+        let ask = Ask::Bound(rule, bound, width);
         let mut slot = [0xEE; SLOT_BYTES];
         let answer = ask.library(kind, log, &mut slot);
         query(random, kind, ask, log, (answer, &slot), counts)
             .and_then(|()| check::written(random, ask, log, (answer, &slot), 1, checked))
-            .map_err(|why| format!("kind {kind}, rule {rule:#x}, bound {bound}: {why}"))?;
+            .map_err(|why| {
+                format!("kind {kind}, rule {rule:#x}, bound {bound}, width {width}: {why}")
+            })?;
     }
     Ok(())
 }

@@ -36,12 +36,18 @@ fn file(
     Ok(kept)
 }
 
-/// What the segment call of the library says of a log, by its number and index. Other orders of the
-/// log are tried too.
+/// A width that gets 'yes': what a log fails of its own does not depend on it.
+fn right_width(random: &mut Random) -> u16 {
+    random.pick(&[1, 1, 1, 2, 9, 60, 4096])
+}
+
+/// What the segment call of the library says of a log, by its number and index, with some right width.
+/// Other orders of the log are tried too.
 fn asked(random: &Random, log: &[u8], seen: &mut Seen) -> Result<(u8, usize), String> {
+    let width = right_width(&mut random.beside());
     let mut list = [c::Segment::default(); pacer::SEGMENT_PLACES];
-    let answer = c::segments(log, 0, &mut list);
-    order::segments(random, 0, log, (answer, &list), &mut seen.order)?;
+    let answer = c::segments(log, 0, width, &mut list);
+    order::segments(random, 0, width, log, (answer, &list), &mut seen.order)?;
     Ok((answer.question, answer.index))
 }
 
@@ -140,7 +146,7 @@ fn with_twin(random: &mut Random, log: &[u8], later: usize, seen: &mut Seen) -> 
     let before = random.bytes(770);
     let (rule, most) = random.pick(&[(c::ROWS, 64), (c::SHARE, 1000)]);
     let bound = random.range(0, most) as u16;
-    let ask = Ask::Bound(rule, bound);
+    let ask = Ask::Bound(rule, bound, right_width(random));
     let no = refused(random, kind, ask, log, &before, seen)?;
     same("query", no, twin)?;
     seen.query[21] += 1;
@@ -153,7 +159,7 @@ fn with_twin(random: &mut Random, log: &[u8], later: usize, seen: &mut Seen) -> 
     let no = refused(random, kind, Ask::Windows(&scenes), log, &before, seen)?;
     same("by scenes", no, twin)?;
     seen.scenes[21] += 1;
-    check::any(log, &before, &mut seen.checked)?;
+    check::any(log, right_width(random), &before, &mut seen.checked)?;
     let kept = file(random, log, log.len(), seen)?.ok_or("a log without bad records is refused")?;
     let without = [&log[..9 * later], &log[9 * later + 9..]].concat();
     same_places("what is kept", &kept, &without)?;

@@ -116,13 +116,11 @@ fn query(
     };
     same_places("slot", &slot, &after)?;
 
-    // The safe function does the same.
+    // The safe function does the same, and reads no width.
     let mut other = before;
+    let width = random.pick(&[1, 0, 2, 60, 4096, 4097, 65_535]);
     let safe = windows.with_rule(|bound| {
-        let query = Query {
-            kind: Kind(kind),
-            bound,
-        };
+        let query = Query::new(Kind(kind), bound).with_memory(width);
         pacer::query(query, log, &mut other)
     });
     if let Some(safe) = safe {

@@ -47,10 +47,7 @@ fn main() -> Result<(), Refusal> {
 
     // What passes is not yet the best that as many rows can give.
     let mut best = [0; SLOT_BYTES];
-    let query = Query {
-        kind: Kind::GREATEST,
-        bound: Rule::Rows(3),
-    };
+    let query = Query::new(Kind::GREATEST, Rule::Rows(3));
     let answer = pacer::query(query, &log, &mut best)?;
     pacer::check(&log, &best)?;
     println!("the best {} rows: error {}", answer.rows, answer.error);

@@ -5,10 +5,7 @@ use pacer::{Bound, Kind, Query, Refusal, SLOT_BYTES};
 fn main() -> Result<(), Refusal> {
     // The log stands behind the four bytes of the sample's query.
     let log = &include_bytes!("../../../samples/restarted.query")[4..];
-    let query = Query {
-        kind: Kind::SUM,
-        bound: Bound::Rows(4),
-    };
+    let query = Query::new(Kind::SUM, Bound::Rows(4));
     let mut slot = [0; SLOT_BYTES];
     if let Err(refusal) = pacer::query(query, log, &mut slot) {
         println!("{refusal}");

@@ -23,8 +23,7 @@ fn main() -> Result<(), Refusal> {
         start: 0,
     };
     for (name, bound) in [("bound", Bound::Rows(5)), ("beats", beats)] {
-        let kind = Kind::SUM;
-        let query = Query { kind, bound };
+        let query = Query::new(Kind::SUM, bound);
         let mut slot = [0; SLOT_BYTES];
         let mut other = [0xFF; SLOT_BYTES];
         let answer = pacer::query(query, &by_console, &mut slot)?;

@@ -11,9 +11,8 @@ fn main() -> Result<(), Refusal> {
     };
     let scenes = [Scene::new(0, 5), Scene::new(6, 10)];
     for (name, bound) in [("beats", beats), ("scenes", Rule::Scenes(&scenes))] {
-        let kind = Kind::SUM;
         let mut slot = [0; SLOT_BYTES];
-        pacer::query(Query { kind, bound }, log, &mut slot)?;
+        pacer::query(Query::new(Kind::SUM, bound), log, &mut slot)?;
         println!("{name}");
         for row in &pacer::read(&slot)? {
             println!("{} {} {} {}", row.group, row.first, row.last, row.value);

@@ -10,6 +10,11 @@ pub const ROWS: u8 = 0x52;
 /// The bound is an error share.
 pub const SHARE: u8 = 0x45;
 
+/// The width without a memory: a value is over the records that contain the frame itself.
+pub const ONE_FRAME: u16 = 1;
+/// The greatest width.
+pub const MOST_WIDTH: u16 = 4096;
+
 /// The mark of a slot's header: the rows were made by a bound.
 pub const BY_BOUND: u8 = 0x48;
 /// The mark of a slot's header: the rows were made by windows.
@@ -155,6 +160,7 @@ mod declared {
             kind: u8,
             rule: u8,
             bound: u16,
+            width: u16,
             log: *const u8,
             log_length: usize,
             slot: *mut u8,
@@ -184,6 +190,7 @@ mod declared {
             log: *const u8,
             log_length: usize,
             kind: u8,
+            width: u16,
             list: *mut Segment,
             places: usize,
         ) -> SegmentsAnswer;
@@ -199,6 +206,7 @@ mod declared {
         pub fn pacer_check(
             log: *const u8,
             log_length: usize,
+            width: u16,
             slot: *const u8,
             slot_length: usize,
         ) -> CheckAnswer;
@@ -230,9 +238,17 @@ pub fn without_twins(log: &[u8], buffer: &mut [u8]) -> LogAnswer {
     }
 }
 
-/// Calls `pacer_query`. The rule is [`ROWS`] or [`SHARE`]; any other is question 3's 'no'.
+/// Calls `pacer_query`. The rule is [`ROWS`] or [`SHARE`]; any other is question 3's 'no'. The width
+/// is [`ONE_FRAME`] to [`MOST_WIDTH`]; any other is question 25's.
 #[inline]
-pub fn query(kind: u8, rule: u8, bound: u16, log: &[u8], slot: &mut [u8]) -> QueryAnswer {
+pub fn query(
+    kind: u8,
+    rule: u8,
+    bound: u16,
+    width: u16,
+    log: &[u8],
+    slot: &mut [u8],
+) -> QueryAnswer {
     // SAFETY: pointers and lengths are those of a shared and an exclusive slice, which do not
     // overlap.
     unsafe {
@@ -240,6 +256,7 @@ pub fn query(kind: u8, rule: u8, bound: u16, log: &[u8], slot: &mut [u8]) -> Que
             kind,
             rule,
             bound,
+            width,
             log.as_ptr(),
             log.len(),
             slot.as_mut_ptr(),
@@ -292,13 +309,20 @@ pub fn query_scenes(
     }
 }
 
-/// Calls `pacer_segments`.
+/// Calls `pacer_segments`. The width is as with [`query`].
 #[inline]
-pub fn segments(log: &[u8], kind: u8, list: &mut [Segment]) -> SegmentsAnswer {
+pub fn segments(log: &[u8], kind: u8, width: u16, list: &mut [Segment]) -> SegmentsAnswer {
     // SAFETY: pointers and lengths are those of a shared and an exclusive slice, which do not
     // overlap; every content of a segment's fields is valid.
     unsafe {
-        declared::pacer_segments(log.as_ptr(), log.len(), kind, list.as_mut_ptr(), list.len())
+        declared::pacer_segments(
+            log.as_ptr(),
+            log.len(),
+            kind,
+            width,
+            list.as_mut_ptr(),
+            list.len(),
+        )
     }
 }
 
@@ -331,10 +355,10 @@ pub fn lookup(slot: &[u8], group: u8, frame: u16) -> LookupAnswer {
     unsafe { declared::pacer_lookup(slot.as_ptr(), slot.len(), group, frame) }
 }
 
-/// Calls `pacer_check`.
+/// Calls `pacer_check`. The width is that of the query that wrote the slot.
 #[inline]
-pub fn check(log: &[u8], slot: &[u8]) -> CheckAnswer {
+pub fn check(log: &[u8], width: u16, slot: &[u8]) -> CheckAnswer {
     // SAFETY: pointers and lengths are those of shared slices. The call writes nothing, so that they
     // may overlap.
-    unsafe { declared::pacer_check(log.as_ptr(), log.len(), slot.as_ptr(), slot.len()) }
+    unsafe { declared::pacer_check(log.as_ptr(), log.len(), width, slot.as_ptr(), slot.len()) }
 }

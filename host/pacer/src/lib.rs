@@ -18,7 +18,7 @@
 //!     Record { group: 1, first: 0, last: 0, load: 7 },
 //! ])?;
 //! let mut slot = [0; SLOT_BYTES];
-//! let query = Query { kind: Kind::SUM, bound: Bound::Rows(4) };
+//! let query = Query::new(Kind::SUM, Bound::Rows(4));
 //! let answer = pacer::query(query, &log, &mut slot)?;
 //! assert_eq!((answer.rows, answer.error, answer.weighed), (4, 11_280, 16));
 //!
@@ -41,6 +41,10 @@
 //! # }
 //! ```
 //!
+//! A frame's value is over the records that contain it, or, with a memory, over those that contain
+//! at least one of the last frames, as many as a width says: [`Query::with_memory`],
+//! [`segments_with_memory`], [`check_with_memory`].
+//!
 //! Every call asks its questions in order. The first that gets 'no' is the [`Refusal`], and then
 //! nothing lent to the call is changed. A log that holds a record twice is refused by question 21;
 //! [`without_twins`] is for such logs on file. A slot that comes with its log, made by whichever
@@ -50,8 +54,8 @@
 //! to 9 and 21 and hold the same records, in whatever order, have the same [`segments`]; and every
 //! [`query`] in order itself, with a slot long enough, gives the same [`Reduction`], cuts weighed
 //! included, and the same 768 bytes of the slot, or is refused with the same one of 10 and 20; and
-//! [`check`] gives a slot the same answer. A log that does not pass is refused with its first 'no'
-//! in the order as lent, and the index is that of the log as lent.
+//! [`check`] gives a slot the same answer. That is so with every width. A log that does not pass is
+//! refused with its first 'no' in the order as lent, and the index is that of the log as lent.
 
 #![deny(unsafe_code)]
 #![warn(missing_docs)]
@@ -77,9 +81,12 @@ pub const SLOT_BYTES: usize = 768;
 pub const ROWS: usize = 64;
 /// The greatest number of scenes in a query.
 pub const SCENES: usize = 16;
+/// The greatest width of a memory, in frames.
+pub const MOST_WIDTH: u16 = c::MOST_WIDTH;
 
-/// What a frame's value is, over the records of its group that contain it; and the value of a
-/// window's row, over those that contain at least one of its frames.
+/// What a frame's value is, over the records of its group that contain it or, with a memory, at least
+/// one of the last frames; and the value of a window's row, over those that contain at least one of
+/// its frames.
 ///
 /// Any number can be asked for; one above 4 is question 2's 'no'.
 #[derive(Clone, Copy, Debug, PartialEq, Eq, PartialOrd, Ord, Hash)]
@@ -101,7 +108,7 @@ impl Kind {
     ///     Record { group: 0, first: 1, last: 1, load: 1 },
     /// ])?;
     /// let mut slot = [0; pacer::SLOT_BYTES];
-    /// let query = Query { kind: Kind::SUM, bound: Bound::Rows(1) };
+    /// let query = Query::new(Kind::SUM, Bound::Rows(1));
     /// assert_eq!(pacer::query(query, &log, &mut slot)?.error, 1);
     /// assert_eq!(pacer::lookup(&slot, 0, 0)?, Some(1));
     /// # Ok(())
@@ -128,7 +135,7 @@ impl Kind {
     ///     Record { group: 0, first: 30, last: 31, load: 900 },
     /// ])?;
     /// let mut slot = [0; pacer::SLOT_BYTES];
-    /// let query = Query { kind: Kind::GREATEST, bound: Bound::Rows(1) };
+    /// let query = Query::new(Kind::GREATEST, Bound::Rows(1));
     /// let answer = pacer::query(query, &log, &mut slot)?;
     /// assert_eq!(answer.error, 58 * 700 * 700);
     /// assert_eq!(pacer::lookup(&slot, 0, 30)?, Some(900));
@@ -204,7 +211,7 @@ impl Scene {
 ///     Record { group: 0, first: 58, last: 61, load: 900 },
 /// ])?;
 /// let mut slot = [0; pacer::SLOT_BYTES];
-/// let query = Query { kind: Kind::GREATEST, bound: Rule::Every { length: 60, start: 0 } };
+/// let query = Query::new(Kind::GREATEST, Rule::Every { length: 60, start: 0 });
 /// pacer::query(query, &log, &mut slot)?;
 /// assert_eq!(
 ///     pacer::read(&slot)?.rows(),
@@ -240,10 +247,75 @@ pub type Bound<'a> = Rule<'a>;
 /// What is asked of a log.
 #[derive(Clone, Copy, Debug, PartialEq, Eq, Hash)]
 pub struct Query<'a> {
-    /// The aggregate over the records that contain a frame, or meet a window.
+    /// The aggregate over the records that contain a frame or one of the last frames, or meet a
+    /// window.
     pub kind: Kind,
     /// The row limit or the error share; or the windows, which stand in place of a bound.
     pub bound: Rule<'a>,
+    /// Over how many of the last frames, the frame itself included, its value looks back: 1 to
+    /// [`MOST_WIDTH`]. A query by windows does not read it.
+    pub width: u16,
+}
+
+impl<'a> Query<'a> {
+    /// A query without a memory: the width is 1, so that a frame's value is over the records that
+    /// contain the frame itself.
+    ///
+    /// ```
+    /// use pacer::{Kind, Query, Rule};
+    ///
+    /// let query = Query::new(Kind::SUM, Rule::Rows(4));
+    /// assert_eq!(query, Query { kind: Kind::SUM, bound: Rule::Rows(4), width: 1 });
+    /// ```
+    pub const fn new(kind: Kind, bound: Rule<'a>) -> Self {
+        Query {
+            kind,
+            bound,
+            width: c::ONE_FRAME,
+        }
+    }
+
+    /// The same query with a memory of so many frames, as heat follows the last seconds of play: a
+    /// frame's value is over the records of its group that contain at least one of the last `width`
+    /// frames, the frame itself included, and a frame is covered if there is such a record. Frames
+    /// past 65,535 do not exist.
+    ///
+    /// Any width can be asked for; 0 and one above [`MOST_WIDTH`] are question 25's 'no'. A query by
+    /// windows reads no width, and is not asked 25. A slot does not say which width it was made with.
+    ///
+    /// ```
+    /// use pacer::{Kind, Query, Record, Row, Rule};
+    ///
+    /// // One frame of load 900, and another one three frames later.
+    /// let log = pacer::log(&[
+    ///     Record { group: 0, first: 10, last: 10, load: 900 },
+    ///     Record { group: 0, first: 13, last: 13, load: 600 },
+    /// ])?;
+    /// let query = Query::new(Kind::GREATEST, Rule::Rows(2));
+    /// let rows = |width| -> Result<Vec<Row>, pacer::Refusal> {
+    ///     let mut slot = [0; pacer::SLOT_BYTES];
+    ///     pacer::query(query.with_memory(width), &log, &mut slot)?;
+    ///     Ok(pacer::read(&slot)?.rows().to_vec())
+    /// };
+    /// let row = |first, last, value| Row { group: 0, first, last, value };
+    /// assert_eq!(rows(1)?, [row(10, 10, 900), row(13, 13, 600)]);
+    /// assert_eq!(rows(2)?, [row(10, 11, 900), row(13, 14, 600)]);
+    /// // Three frames close the gap, and with four the first load still counts at frame 13.
+    /// assert_eq!(rows(3)?, [row(10, 12, 900), row(13, 15, 600)]);
+    /// assert_eq!(rows(4)?, [row(10, 13, 900), row(14, 16, 600)]);
+    ///
+    /// for wrong in [0, pacer::MOST_WIDTH + 1] {
+    ///     assert_eq!(rows(wrong).unwrap_err().question, 25);
+    /// }
+    /// // By windows the width is not read.
+    /// let beats = Query::new(Kind::GREATEST, Rule::Every { length: 60, start: 0 });
+    /// let mut slot = [0; pacer::SLOT_BYTES];
+    /// assert_eq!(pacer::query(beats.with_memory(0), &log, &mut slot)?.rows, 1);
+    /// # Ok::<(), pacer::Refusal>(())
+    /// ```
+    pub const fn with_memory(self, width: u16) -> Self {
+        Query { width, ..self }
+    }
 }
 
 /// What a query wrote into the slot.
@@ -262,7 +334,7 @@ pub struct Reduction {
 /// ```
 /// use pacer::{Bound, Kind, Query};
 ///
-/// let query = Query { kind: Kind(5), bound: Bound::Rows(65) };
+/// let query = Query::new(Kind(5), Bound::Rows(65));
 /// let mut slot = [0; pacer::SLOT_BYTES];
 /// let refusal = pacer::query(query, &[], &mut slot).unwrap_err();
 /// assert_eq!((refusal.question, refusal.index), (2, 0));
@@ -270,7 +342,7 @@ pub struct Reduction {
 /// ```
 #[derive(Clone, Copy, Debug, PartialEq, Eq, Hash)]
 pub struct Refusal {
-    /// The question's number, 1 to 24.
+    /// The question's number, 1 to 25.
     pub question: u8,
     /// The index from 0 of the record or row concerned, for questions 6 to 9, 14 to 16 and 21; 0
     /// for the others.
@@ -313,6 +385,7 @@ impl Refusal {
             22 => "Do the rows cover, group by group, just the covered frames?",
             23 => "Is no row of kind 3 below the value of a covered frame in it?",
             24 => "Is the header's error the squared error of the rows, summed frame by frame?",
+            25 => "Is the width 1 to 4,096?",
             _ => "unknown question",
         }
     }
@@ -406,7 +479,7 @@ pub fn log(records: &[Record]) -> Result<Vec<u8>, Refusal> {
 /// let on_file = pacer::log(&[start, peak, peak])?;
 ///
 /// // The third record is the second one's twin.
-/// let query = Query { kind: Kind::SUM, bound: Bound::Rows(1) };
+/// let query = Query::new(Kind::SUM, Bound::Rows(1));
 /// let mut slot = [0; pacer::SLOT_BYTES];
 /// let refusal = pacer::query(query, &on_file, &mut slot).unwrap_err();
 /// assert_eq!((refusal.question, refusal.index), (21, 2));
@@ -425,7 +498,8 @@ pub fn without_twins(log: &[u8], buffer: &mut [u8]) -> Result<usize, Refusal> {
 }
 
 /// Writes a log's segments into a list of at least 255 places and gives those written, by group
-/// and then by first frame. The other places keep their content.
+/// and then by first frame. The other places keep their content. A frame's value is over the records
+/// that contain it; with a memory it is [`segments_with_memory`].
 ///
 /// Asks questions 1, 2, 4 to 9 and 21, the last after 9 of the same record.
 ///
@@ -454,7 +528,48 @@ pub fn segments<'a>(
     kind: Kind,
     list: &'a mut [Segment],
 ) -> Result<&'a [Segment], Refusal> {
-    let answer = c::segments(log, kind.0, list);
+    segments_with_memory(log, kind, c::ONE_FRAME, list)
+}
+
+/// Writes a log's segments with a memory into a list, as [`segments`] does without one: a frame's
+/// value is over the records of its group that contain at least one of the last `width` frames, the
+/// frame itself included, and a frame is covered if there is such a record. Frames past 65,535 do not
+/// exist. Width 1 is no memory.
+///
+/// Asks questions 1, 2, 25, 4 to 9 and 21, the last after 9 of the same record.
+///
+/// A log that passes 4 to 9 and 21 has the same segments with its records in any other order.
+///
+/// ```
+/// use pacer::{Kind, Record, Segment, SEGMENT_PLACES};
+///
+/// let log = pacer::log(&[
+///     Record { group: 0, first: 0, last: 3, load: 100 },
+///     Record { group: 0, first: 2, last: 5, load: 200 },
+///     Record { group: 7, first: 65_534, last: 65_534, load: 50 },
+/// ])?;
+/// let mut list = [Segment::default(); SEGMENT_PLACES];
+/// assert_eq!(
+///     pacer::segments_with_memory(&log, Kind::SUM, 3, &mut list)?,
+///     [
+///         Segment { group: 0, first: 0, last: 1, value: 100 },
+///         Segment { group: 0, first: 2, last: 5, value: 300 },
+///         Segment { group: 0, first: 6, last: 7, value: 200 },
+///         Segment { group: 7, first: 65_534, last: 65_535, value: 50 },
+///     ]
+/// );
+///
+/// let refusal = pacer::segments_with_memory(&log, Kind::SUM, 0, &mut list).unwrap_err();
+/// assert_eq!(refusal.to_string(), "question 25 got 'no': Is the width 1 to 4,096?");
+/// # Ok::<(), pacer::Refusal>(())
+/// ```
+pub fn segments_with_memory<'a>(
+    log: &[u8],
+    kind: Kind,
+    width: u16,
+    list: &'a mut [Segment],
+) -> Result<&'a [Segment], Refusal> {
+    let answer = c::segments(log, kind.0, width, list);
     Refusal::from_answer(answer.question, answer.index)?;
     Ok(&list[..answer.count])
 }
@@ -462,8 +577,8 @@ pub fn segments<'a>(
 /// Reduces a log to the rows that the query asks for and writes them into the first 768 bytes of
 /// a slot; the other bytes keep their content.
 ///
-/// Asks questions 1 to 10, and 21 of a record after its 9. By windows it asks 18 or 19 in place of
-/// 3, and 20 in place of 10.
+/// Asks questions 1 to 10, with 25 directly after 3, and 21 of a record after its 9. By windows it
+/// asks 18 or 19 in place of 3 and 25, and 20 in place of 10.
 ///
 /// A log that passes 4 to 9 and 21 gives the same answer, refusals by 10 and 20 included, and the
 /// same 768 bytes with its records in any other order.
@@ -479,10 +594,10 @@ pub fn segments<'a>(
 ///     load: 4 * frame,
 /// }))?;
 /// let mut slot = [0; pacer::SLOT_BYTES];
-/// let query = Query { kind: Kind::SUM, bound: Bound::Rows(2) };
+/// let query = Query::new(Kind::SUM, Bound::Rows(2));
 /// assert_eq!(pacer::query(query, &log, &mut slot)?.error, 8);
 ///
-/// let query = Query { kind: Kind::SUM, bound: Bound::Rows(0) };
+/// let query = Query::new(Kind::SUM, Bound::Rows(0));
 /// assert_eq!(pacer::query(query, &log, &mut slot).unwrap_err().question, 10);
 /// # Ok::<(), pacer::Refusal>(())
 /// ```
@@ -497,7 +612,7 @@ pub fn segments<'a>(
 ///     Record { group: 2, first: 890, last: 1_300, load: 400 },
 /// ])?;
 /// let scenes = [Scene::new(0, 599), Scene::new(600, 999), Scene::new(2_000, 2_499)];
-/// let query = Query { kind: Kind::MEAN, bound: Rule::Scenes(&scenes) };
+/// let query = Query::new(Kind::MEAN, Rule::Scenes(&scenes));
 /// let mut slot = [0; pacer::SLOT_BYTES];
 /// assert_eq!(pacer::query(query, &log, &mut slot)?.rows, 2);
 ///
@@ -532,7 +647,7 @@ pub fn segments<'a>(
 /// records.reverse();
 /// let backwards = pacer::log(&records)?;
 /// for bound in [Bound::Rows(3), Rule::Every { length: 60, start: 0 }, Bound::Rows(1)] {
-///     let query = Query { kind: Kind::MEAN, bound };
+///     let query = Query::new(Kind::MEAN, bound);
 ///     let mut slots = [[0; pacer::SLOT_BYTES]; 2];
 ///     let answer = pacer::query(query, &log, &mut slots[0]);
 ///     assert_eq!(pacer::query(query, &backwards, &mut slots[1]), answer);
@@ -543,7 +658,7 @@ pub fn segments<'a>(
 /// for (mut damaged, index) in [(log, 0), (backwards, 2)] {
 ///     damaged[9 * index + 2] = 8;
 ///     let mut slot = [0; pacer::SLOT_BYTES];
-///     let query = Query { kind: Kind::MEAN, bound: Bound::Rows(3) };
+///     let query = Query::new(Kind::MEAN, Bound::Rows(3));
 ///     let refusal = pacer::query(query, &damaged, &mut slot).unwrap_err();
 ///     assert_eq!((refusal.question, refusal.index), (7, index));
 /// }
@@ -552,8 +667,8 @@ pub fn segments<'a>(
 pub fn query(query: Query, log: &[u8], slot: &mut [u8]) -> Result<Reduction, Refusal> {
     let kind = query.kind.0;
     let answer = match query.bound {
-        Rule::Rows(limit) => c::query(kind, c::ROWS, limit, log, slot),
-        Rule::Share(share) => c::query(kind, c::SHARE, share, log, slot),
+        Rule::Rows(limit) => c::query(kind, c::ROWS, limit, query.width, log, slot),
+        Rule::Share(share) => c::query(kind, c::SHARE, share, query.width, log, slot),
         Rule::Every { length, start } => c::query_beats(kind, length, start, log, slot),
         Rule::Scenes(scenes) => {
             // One scene too many is as wrong a count as several.
@@ -695,6 +810,26 @@ impl Profile<'_> {
     pub fn check(&self, log: &[u8]) -> Result<(), Refusal> {
         check(log, self.slot)
     }
+
+    /// Whether the rows and the error are those of a log with a memory of so many frames, as
+    /// [`check_with_memory`] says.
+    ///
+    /// ```
+    /// use pacer::{Kind, Query, Record, Rule};
+    ///
+    /// let log = pacer::log(&[Record { group: 0, first: 0, last: 59, load: 200 }])?;
+    /// let mut slot = [0; pacer::SLOT_BYTES];
+    /// let query = Query::new(Kind::SUM, Rule::Rows(1)).with_memory(60);
+    /// pacer::query(query, &log, &mut slot)?;
+    /// let profile = pacer::read(&slot)?;
+    /// assert_eq!(profile.rows()[0].last, 118);
+    /// assert_eq!(profile.check_with_memory(&log, query.width), Ok(()));
+    /// assert_eq!(profile.check(&log).unwrap_err().question, 22);
+    /// # Ok::<(), pacer::Refusal>(())
+    /// ```
+    pub fn check_with_memory(&self, log: &[u8], width: u16) -> Result<(), Refusal> {
+        check_with_memory(log, width, self.slot)
+    }
 }
 
 impl<'a> IntoIterator for &'a Profile<'_> {
@@ -775,7 +910,7 @@ fn row_in(answer: c::StepAnswer) -> Result<Option<Row>, Refusal> {
 /// # use pacer::{Bound, Kind, Query, Record};
 /// # let log = pacer::log(&[Record { group: 3, first: 5, last: 9, load: 40 }])?;
 /// # let mut slot = [0; pacer::SLOT_BYTES];
-/// # pacer::query(Query { kind: Kind::SUM, bound: Bound::Rows(1) }, &log, &mut slot)?;
+/// # pacer::query(Query::new(Kind::SUM, Bound::Rows(1)), &log, &mut slot)?;
 /// assert_eq!(pacer::lookup(&slot, 3, 9)?, Some(40));
 /// assert_eq!(pacer::lookup(&slot, 3, 10)?, None);
 /// assert_eq!(pacer::lookup(&slot, 8, 9).unwrap_err().question, 7);
@@ -792,10 +927,13 @@ pub fn lookup(slot: &[u8], group: u8, frame: u16) -> Result<Option<u32>, Refusal
 /// covered frame in it, and the error is the squared error of the rows, summed frame by frame.
 /// Values are those of the slot's kind.
 ///
+/// A frame's value is over the records that contain it. A slot that was made with a memory is held to
+/// its log by [`check_with_memory`].
+///
 /// Asks questions 1, 4 to 9 and 21 of the log, 11 to 17 of the slot, whose header is `50 48` alone
 /// here, and then 22, 23 (of kind 3 alone) and 24.
 ///
-/// Every slot that [`query`] writes by a bound passes with its log. Rows need not be the best: those
+/// Every slot that [`query`] writes by a bound without a memory passes with its log. Rows need not be the best: those
 /// cut finer than needed pass too, and with any values. But no slot that passes is better than the
 /// query's own answer: [`query`] of its kind, with [`Rule::Rows`] of its count of rows, is accepted,
 /// with at most as many rows and at most its error. The answer for a log that passes 4 to 9 and 21 is
@@ -811,7 +949,7 @@ pub fn lookup(slot: &[u8], group: u8, frame: u16) -> Result<Option<u32>, Refusal
 /// ];
 /// let log = pacer::log(&records)?;
 /// let mut slot = [0; pacer::SLOT_BYTES];
-/// let query = Query { kind: Kind::GREATEST, bound: Bound::Rows(1) };
+/// let query = Query::new(Kind::GREATEST, Bound::Rows(1));
 /// pacer::query(query, &log, &mut slot)?;
 /// assert_eq!(pacer::check(&log, &slot), Ok(()));
 /// assert_eq!(pacer::read(&slot)?.check(&log), Ok(()));
@@ -831,6 +969,45 @@ pub fn lookup(slot: &[u8], group: u8, frame: u16) -> Result<Option<u32>, Refusal
 /// # Ok::<(), pacer::Refusal>(())
 /// ```
 pub fn check(log: &[u8], slot: &[u8]) -> Result<(), Refusal> {
-    let answer = c::check(log, slot);
+    check_with_memory(log, c::ONE_FRAME, slot)
+}
+
+/// Holds a slot by a bound to its log as [`check`] does, with a memory: covered frames and values are
+/// by the width, as with [`Query::with_memory`]. A slot does not say which width it was made with, so
+/// that the caller has to: every slot that a query by a bound writes passes with its log and the
+/// query's own width. With another width it may be refused, by 22, 23 or 24, or pass where the two
+/// widths say the same of the log.
+///
+/// Asks questions 1 and 25, then 4 to 9 and 21 of the log, 11 to 17 of the slot, whose header is
+/// `50 48` alone here, and then 22, 23 (of kind 3 alone) and 24.
+///
+/// No slot that passes is better than the answer to the query of its kind and the same width, with
+/// [`Rule::Rows`] of its count of rows. The answer for a log that passes 4 to 9 and 21 is the same
+/// with its records in any other order.
+///
+/// ```
+/// use pacer::{Kind, Query, Record, Rule};
+///
+/// // A load of 200 with a peak of 900 that is felt for ten frames.
+/// let log = pacer::log(&[
+///     Record { group: 0, first: 0, last: 65_535, load: 200 },
+///     Record { group: 0, first: 30, last: 31, load: 900 },
+/// ])?;
+/// let question = |width, slot: &[u8]| {
+///     pacer::check_with_memory(&log, width, slot).map_err(|refusal| refusal.question)
+/// };
+/// let mut slot = [0; pacer::SLOT_BYTES];
+/// for (kind, wider) in [(Kind::GREATEST, Err(23)), (Kind::SUM, Err(24))] {
+///     let query = Query::new(kind, Rule::Rows(3)).with_memory(10);
+///     pacer::query(query, &log, &mut slot)?;
+///     assert_eq!(question(10, &slot), Ok(()));
+///     assert_eq!(question(9, &slot), Err(24));
+///     assert_eq!(question(11, &slot), wider);
+///     assert_eq!(question(0, &slot), Err(25));
+/// }
+/// # Ok::<(), pacer::Refusal>(())
+/// ```
+pub fn check_with_memory(log: &[u8], width: u16, slot: &[u8]) -> Result<(), Refusal> {
+    let answer = c::check(log, width, slot);
     Refusal::from_answer(answer.question, answer.index)
 }

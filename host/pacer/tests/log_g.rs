@@ -25,10 +25,7 @@ fn log_g() -> Vec<u8> {
 }
 
 fn sum(bound: Bound) -> Query {
-    Query {
-        kind: Kind::SUM,
-        bound,
-    }
+    Query::new(Kind::SUM, bound)
 }
 
 /// A row: group, first, last, value.
@@ -181,10 +178,7 @@ fn walks_and_lists_of_rows() {
 #[test]
 fn means_of_g() {
     let mut slot = [0; SLOT_BYTES];
-    let query = Query {
-        kind: Kind::MEAN,
-        bound: Bound::Rows(4),
-    };
+    let query = Query::new(Kind::MEAN, Bound::Rows(4));
     let answer = pacer::query(query, &log_g(), &mut slot).unwrap();
     assert_eq!((answer.error, answer.weighed), (25_666_667, 16));
     let profile = pacer::read(&slot).unwrap();
@@ -235,10 +229,7 @@ fn greatest_of_g() {
     ];
     for (bound, rows, error) in cases {
         let mut slot = [0; SLOT_BYTES];
-        let query = Query {
-            kind: Kind::GREATEST,
-            bound,
-        };
+        let query = Query::new(Kind::GREATEST, bound);
         assert_eq!(pacer::query(query, &log, &mut slot).unwrap().error, error);
         let profile = pacer::read(&slot).unwrap();
         assert_eq!((profile.kind(), profile.error()), (Kind::GREATEST, error));
@@ -269,7 +260,7 @@ fn halves() {
     ] {
         let mut slot = [0; SLOT_BYTES];
         let bound = Bound::Rows(3);
-        let answer = pacer::query(Query { kind, bound }, &log, &mut slot).unwrap();
+        let answer = pacer::query(Query::new(kind, bound), &log, &mut slot).unwrap();
         assert_eq!(answer.error, error);
         assert_eq!(pacer::read(&slot).unwrap().rows(), rows, "{kind:?}");
     }
@@ -281,7 +272,7 @@ fn halves() {
     for (kind, value, error) in [(Kind::SUM, 119_872, 1_000_000), (Kind::COUNT, 128, 1)] {
         let mut slot = [0; SLOT_BYTES];
         let bound = Bound::Rows(1);
-        let answer = pacer::query(Query { kind, bound }, &log, &mut slot).unwrap();
+        let answer = pacer::query(Query::new(kind, bound), &log, &mut slot).unwrap();
         assert_eq!(
             (answer.error, pacer::lookup(&slot, 3, 7)),
             (error, Ok(Some(value)))
@@ -361,10 +352,8 @@ fn most_segments_and_loads() {
     let found = pacer::segments(&log, Kind::SUM, &mut list).unwrap();
     assert_eq!(found.len(), SEGMENT_PLACES);
     assert_eq!((found[127].first, found[127].value), (127, 128_000));
-    let query = Query {
-        kind: Kind::SUM,
-        bound: Rule::Scenes(&[Scene::new(0, 1000)]),
-    };
+    let scenes = [Scene::new(0, 1000)];
+    let query = Query::new(Kind::SUM, Rule::Scenes(&scenes));
     let mut slot = [0; SLOT_BYTES];
     pacer::query(query, &log, &mut slot).unwrap();
     assert_eq!(pacer::lookup(&slot, 7, 0), Ok(Some(128_000)));
@@ -502,7 +491,7 @@ fn any_order() {
             let found = pacer::segments(&log, kind, list);
             assert_eq!(pacer::segments(&other, kind, again), found);
             for (bound, refused) in rules {
-                let query = Query { kind, bound };
+                let query = Query::new(kind, bound);
                 let mut slot = [0x55; SLOT_BYTES];
                 let mut again = [0xAA; SLOT_BYTES];
                 let answer = pacer::query(query, &log, &mut slot);

@@ -43,7 +43,7 @@ impl Call {
             Call::Segments => return segments(kind, log, fill),
         };
         let mut slot = [fill; SLOT_BYTES + 3];
-        let found = pacer::query(Query { kind, bound }, log, &mut slot);
+        let found = pacer::query(Query::new(kind, bound), log, &mut slot);
         let kept = if found.is_ok() { SLOT_BYTES } else { 0 };
         assert!(slot[kept..].iter().all(|byte| *byte == fill));
         found.map(|found| Given::Slot(found, slot[..SLOT_BYTES].to_vec()))

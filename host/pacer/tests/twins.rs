@@ -67,10 +67,7 @@ fn asked(log: &[u8]) -> Result<(), Refusal> {
     ];
     for kind in 0..=4 {
         for bound in rules {
-            let query = Query {
-                kind: Kind(kind),
-                bound,
-            };
+            let query = Query::new(Kind(kind), bound);
             let mut slot = noise(SLOT_BYTES + 3);
             let found = pacer::query(query, log, &mut slot).map(|_| ());
             if found.is_err() {
@@ -139,10 +136,7 @@ fn restarted_logger() {
 
     let twice = log(&[G[0], G[0]]);
     let mut slot = [0; SLOT_BYTES];
-    let query = Query {
-        kind: Kind::SUM,
-        bound: Rule::Rows(1),
-    };
+    let query = Query::new(Kind::SUM, Rule::Rows(1));
     assert_eq!(pacer::query(query, &twice, &mut slot), Err(refusal(21, 1)));
     pacer::query(query, &kept(&twice), &mut slot).unwrap();
     let row = Row {
@@ -218,10 +212,7 @@ fn among_the_others() {
         record(0, 0, 64, 1),
     ]);
     let question = |kind, bound, log: &[u8]| {
-        let query = Query {
-            kind: Kind(kind),
-            bound,
-        };
+        let query = Query::new(Kind(kind), bound);
         pacer::query(query, log, &mut [0; SLOT_BYTES]).unwrap_err()
     };
     let every = |length| Rule::Every { length, start: 0 };

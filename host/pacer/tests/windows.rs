@@ -40,7 +40,7 @@ fn log_g() -> Vec<u8> {
 /// and in a refusal all do.
 fn rows(kind: Kind, rule: Rule, log: &[u8]) -> Result<Vec<Row>, Refusal> {
     let mut slot = [0xAA; SLOT_BYTES + 3];
-    let query = Query { kind, bound: rule };
+    let query = Query::new(kind, rule);
     let answer = match pacer::query(query, log, &mut slot) {
         Ok(answer) => answer,
         Err(refusal) => {
@@ -92,10 +92,7 @@ fn as_worked_out() {
         let mut slot = noise();
         let mut by_rule = noise();
         let mut safe = |rule| {
-            let query = Query {
-                kind: Kind(kind),
-                bound: rule,
-            };
+            let query = Query::new(Kind(kind), rule);
             let outcome = pacer::query(query, &log, &mut by_rule);
             let answer = outcome.map(|found| (0, 0, found.rows));
             answer.unwrap_or_else(|refusal| (refusal.question, refusal.index, 0))
@@ -250,10 +247,7 @@ fn too_many_rows() {
 fn both_headers() {
     let log = log_g();
     let mut slot = [0; SLOT_BYTES];
-    let mut query = Query {
-        kind: Kind::SUM,
-        bound: Bound::Rows(4),
-    };
+    let mut query = Query::new(Kind::SUM, Bound::Rows(4));
     pacer::query(query, &log, &mut slot).unwrap();
     assert_eq!(pacer::read(&slot).unwrap().header(), Header::ByBound);
     assert_eq!(c::read(&slot).mark, c::BY_BOUND);

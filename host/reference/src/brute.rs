@@ -1,5 +1,5 @@
-//! Demand 3 by trying every list of rows, rows by windows by going through the frames, and twins by
-//! holding every record to every earlier one.
+//! Demand 3 by trying every list of rows, rows by windows by going through the frames, a memory by
+//! going through the last frames of each frame, and twins by holding every record to every earlier one.
 //!
 //! Nothing here knows segments or blocks: a log is its covered frames with their values, a list
 //! of rows is any cutting of these frames, and a row's number is tried out. By the kind of the
@@ -11,6 +11,36 @@ use std::collections::BTreeSet;
 
 /// A covered frame: group, frame and value.
 pub type Frame = (u8, u32, u32);
+
+/// Every covered frame with its value, by group and then by frame: each of the frames that are gone
+/// through is asked for the records that contain it, or the frame before it, and so on, as many frames
+/// back as the width says. A record that is found at several of them is noted once. The frames must
+/// have all that are covered among them; few and with a small width.
+pub fn covered_by_frames(
+    records: &[Record],
+    kind: u8,
+    width: u16,
+    frames: impl Iterator<Item = u16> + Clone,
+) -> Vec<Frame> {
+    let mut covered = Vec::new();
+    for group in 0..8 {
+        for frame in frames.clone() {
+            let mut met = BTreeSet::new();
+            for back in (0..width).take_while(|back| *back <= frame) {
+                for (place, record) in records.iter().enumerate() {
+                    let holds = (record.first..=record.last).contains(&(frame - back));
+                    if record.group == group && holds {
+                        met.insert(place);
+                    }
+                }
+            }
+            let loads = met.into_iter().map(|place| u32::from(records[place].load));
+            let value = aggregate(&loads.collect::<Vec<u32>>(), kind);
+            covered.extend(value.map(|value| (group, u32::from(frame), value)));
+        }
+    }
+    covered
+}
 
 /// Whether a list fits for a kind: every covered frame lies in exactly one row of its group, and
 /// no uncovered frame lies in any; by the kind of the greatest load no frame's value is above the
@@ -386,6 +416,36 @@ mod tests {
         for kind in 0..=crate::MOST_KIND {
             let by_frames = rows_by_frames(&records, kind, &windows);
             assert_eq!(crate::window_rows(&records, kind, &windows), by_frames);
+        }
+    }
+
+    /// With a memory: at the first frame and the last, and with a record that ends as many frames
+    /// before a frame as are remembered.
+    #[test]
+    fn memory_by_frames() {
+        let record = |group, first, last, load| Record {
+            mark: [0x4C, 0x44],
+            group,
+            first,
+            last,
+            load,
+        };
+        let low = [record(3, 0, 1, 1), record(3, 4, 4, 2), record(5, 2, 9, 4)];
+        let high = [record(0, 65_530, 65_531, 1), record(0, 65_535, 65_535, 2)];
+        let found = covered_by_frames(&low, 0, 3, 0..=20);
+        let of_three: Vec<_> = found.iter().filter(|frame| frame.0 == 3).collect();
+        let expected = [(0, 1), (1, 1), (2, 1), (3, 1), (4, 2), (5, 2), (6, 2)];
+        assert_eq!(of_three.len(), expected.len());
+        for (frame, expected) in of_three.iter().zip(expected) {
+            assert_eq!((frame.1, frame.2), expected);
+        }
+        for width in 1..9 {
+            for kind in 0..=crate::MOST_KIND {
+                for (records, frames) in [(&low[..], 0..=40), (&high[..], 65_500..=65_535)] {
+                    let by_frames = covered_by_frames(records, kind, width, frames);
+                    assert_eq!(crate::covered(records, kind, width), by_frames);
+                }
+            }
         }
     }
 

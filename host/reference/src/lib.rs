@@ -5,9 +5,10 @@
 //! error of a block is summed over its segments, not computed from totals; the reduction is a
 //! plain table over all cuts, with no early exit, and the cuts that the paper's scan weighs are
 //! counted beside it. Rows by windows are found window by window, the empty ones included. Twins are
-//! found in a set of the records' bytes. A slot is held to its log frame by frame. [`brute`] goes
-//! further: it tries every list of rows for a small log, goes through the frames of a window, and
-//! holds every record to every earlier one.
+//! found in a set of the records' bytes. A slot is held to its log frame by frame. With a memory, each
+//! frame is asked which records meet the last frames; no record is made longer. [`brute`] goes
+//! further: it tries every list of rows for a small log, goes through the frames of a window and
+//! through the last frames of each frame, and holds every record to every earlier one.
 
 #![forbid(unsafe_code)]
 
@@ -30,6 +31,12 @@ pub const BY_BOUND: u8 = 0x48;
 pub const BY_WINDOWS: u8 = 0x53;
 /// The greatest number of rows in a slot.
 pub const MOST_ROWS: usize = 64;
+/// The width without a memory.
+pub const ONE_FRAME: u16 = 1;
+/// The greatest width of a memory.
+pub const MOST_WIDTH: u16 = 4096;
+/// The last frame that there is.
+const LAST_FRAME: u32 = 65_535;
 
 /// The first question that got 'no', and the index of the record or row.
 #[derive(Clone, Copy, Debug, PartialEq, Eq)]
@@ -194,15 +201,50 @@ fn aggregate(loads: &[u32], kind: u8) -> Option<u32> {
     }
 }
 
-/// The value of a frame: the aggregate of the loads of the records that contain it, none if no
-/// record does. All records are of the frame's group.
-fn value_of(of_group: &[Record], kind: u8, frame: u32) -> Option<u32> {
-    let loads: Vec<u32> = of_group
-        .iter()
-        .filter(|record| u32::from(record.first) <= frame && frame <= u32::from(record.last))
-        .map(|record| u32::from(record.load))
-        .collect();
-    aggregate(&loads, kind)
+/// The last frames of a frame, as many as the width says, itself included: the first and the last of
+/// them. There are none before frame 0.
+fn last_frames(frame: u32, width: u16) -> Window {
+    let first = frame.saturating_sub(u32::from(width) - 1);
+    (first as u16, frame as u16)
+}
+
+/// The values of some frames, one after the other: for each the aggregate of the loads of the records
+/// that contain at least one of its last frames, none if no record does. All records, at most 128, are
+/// of the frames' group.
+fn values<'a>(
+    of_group: &'a [Record],
+    kind: u8,
+    width: u16,
+    frames: impl Iterator<Item = u32> + 'a,
+) -> impl Iterator<Item = (u32, Option<u32>)> + 'a {
+    assert!(of_group.len() <= 128);
+    // The records of the frame before, a bit for each, and its value: with the same records a frame
+    // has the same value.
+    let (mut before, mut value) = (0u128, None);
+    frames.map(move |frame| {
+        let window = last_frames(frame, width);
+        let met = |record: &&Record| meets(record, window);
+        let bits = of_group
+            .iter()
+            .rev()
+            .fold(0, |bits, record| bits << 1 | u128::from(met(&record)));
+        if bits != before {
+            let records = of_group.iter().filter(met);
+            let loads: Vec<u32> = records.map(|record| u32::from(record.load)).collect();
+            (before, value) = (bits, aggregate(&loads, kind));
+        }
+        (frame, value)
+    })
+}
+
+/// The frames of a group that a value may have to be asked for: from the first that a record contains
+/// to the last one whose last frames reach one. Behind it, and before the first, no frame is covered.
+fn reached(of_group: &[Record], width: u16) -> Option<(u32, u32)> {
+    let first = of_group.iter().map(|record| record.first).min()?;
+    let last = of_group.iter().map(|record| record.last).max()?;
+    // Of a frame further behind, even the earliest of the last frames lies behind all records.
+    let most = u32::from(last) + u32::from(width) - 1;
+    Some((u32::from(first), most.min(LAST_FRAME)))
 }
 
 /// The records of a group.
@@ -214,19 +256,14 @@ fn of_group(records: &[Record], group: u8) -> Vec<Record> {
         .collect()
 }
 
-/// Every covered frame with its value, by group and then by frame.
-pub fn covered(records: &[Record], kind: u8) -> Vec<(u8, u32, u32)> {
+/// Every covered frame with its value, by group and then by frame. The width is at least 1.
+pub fn covered(records: &[Record], kind: u8, width: u16) -> Vec<(u8, u32, u32)> {
     let mut frames = Vec::new();
     for group in 0..8 {
         let of_group = of_group(records, group);
-        let first = of_group.iter().map(|record| u32::from(record.first)).min();
-        let last = of_group.iter().map(|record| u32::from(record.last)).max();
-        if let (Some(first), Some(last)) = (first, last) {
-            for frame in first..=last {
-                if let Some(value) = value_of(&of_group, kind, frame) {
-                    frames.push((group, frame, value));
-                }
-            }
+        if let Some((first, last)) = reached(&of_group, width) {
+            let values = values(&of_group, kind, width, first..=last);
+            frames.extend(values.filter_map(|(frame, value)| Some((group, frame, value?))));
         }
     }
     frames
@@ -234,9 +271,9 @@ pub fn covered(records: &[Record], kind: u8) -> Vec<(u8, u32, u32)> {
 
 /// The segments of a log in order: the covered frames, joined where they are consecutive and
 /// equal in value.
-pub fn segments_of(records: &[Record], kind: u8) -> Vec<Stretch> {
+pub fn segments_of(records: &[Record], kind: u8, width: u16) -> Vec<Stretch> {
     let mut segments: Vec<Stretch> = Vec::new();
-    for (group, frame, value) in covered(records, kind) {
+    for (group, frame, value) in covered(records, kind, width) {
         match segments.last_mut() {
             Some(open)
                 if open.group == group
@@ -256,11 +293,20 @@ pub fn segments_of(records: &[Record], kind: u8) -> Vec<Stretch> {
     segments
 }
 
+/// Whether a width passes question 25.
+pub fn right_width(width: u16) -> bool {
+    (ONE_FRAME..=MOST_WIDTH).contains(&width)
+}
+
 /// The segment call: the segments, or the first question that got 'no'.
-pub fn segments(log: &[u8], kind: u8, places: usize) -> Result<Vec<Stretch>, No> {
-    ask([(1, 0, places >= 255), (2, 0, kind <= MOST_KIND)])?;
+pub fn segments(log: &[u8], kind: u8, width: u16, places: usize) -> Result<Vec<Stretch>, No> {
+    ask([
+        (1, 0, places >= 255),
+        (2, 0, kind <= MOST_KIND),
+        (25, 0, right_width(width)),
+    ])?;
     ask_log(log)?;
-    Ok(segments_of(&records(log), kind))
+    Ok(segments_of(&records(log), kind, width))
 }
 
 // ---------------------------------------------------------------------------------------------
@@ -538,6 +584,7 @@ pub fn query(
     kind: u8,
     rule: u8,
     bound: u16,
+    width: u16,
     log: &[u8],
     slot_length: usize,
 ) -> Result<Reduction, No> {
@@ -545,9 +592,10 @@ pub fn query(
         (1, 0, slot_length >= 768),
         (2, 0, kind <= MOST_KIND),
         (3, 0, bounded(rule, bound)),
+        (25, 0, right_width(width)),
     ])?;
     ask_log(log)?;
-    reduce(&segments_of(&records(log), kind), kind, rule, bound).ok_or(No {
+    reduce(&segments_of(&records(log), kind, width), kind, rule, bound).ok_or(No {
         question: 10,
         index: 0,
     })
@@ -729,12 +777,12 @@ pub fn lookup(slot: &[u8], group: u8, frame: u16) -> Result<Option<u32>, No> {
         .map(|row| row.value))
 }
 
-/// Holds a slot to a log, frame by frame: each frame of each group is asked which records and which
-/// row contain it. A frame outside all that records and rows of its group name lies in none of them,
-/// and is not gone to. The error is summed in 128 bits; 64 would do, since 8 groups of 65,536 frames
+/// Holds a slot to a log, frame by frame: each frame of each group is asked which records contain one
+/// of its last frames and which row contains it. A frame outside all that records, with the last frames
+/// of a frame, and rows of its group reach lies in none of them, and is not gone to. The error is summed in 128 bits; 64 would do, since 8 groups of 65,536 frames
 /// with differences of at most 128,000 have at most 8,589,934,592,000,000.
-pub fn check(log: &[u8], slot: &[u8]) -> Result<(), No> {
-    ask([(1, 0, slot.len() >= 768)])?;
+pub fn check(log: &[u8], width: u16, slot: &[u8]) -> Result<(), No> {
+    ask([(1, 0, slot.len() >= 768), (25, 0, right_width(width))])?;
     ask_log(log)?;
     ask([(11, 0, slot[..2] == [0x50, BY_BOUND])])?;
     let Contents {
@@ -745,17 +793,16 @@ pub fn check(log: &[u8], slot: &[u8]) -> Result<(), No> {
     for group in 0..8 {
         let of_group = of_group(&records, group);
         let rows: Vec<&Stretch> = rows.iter().filter(|row| row.group == group).collect();
-        let named = of_group
+        let of_rows = rows
             .iter()
-            .map(|record| (record.first, record.last))
-            .chain(rows.iter().map(|row| (row.first, row.last)));
-        let first = named.clone().map(|(first, _)| u32::from(first)).min();
-        let last = named.map(|(_, last)| u32::from(last)).max();
+            .map(|row| (u32::from(row.first), u32::from(row.last)));
+        let named = of_rows.chain(reached(&of_group, width));
+        let first = named.clone().map(|(first, _)| first).min();
+        let last = named.map(|(_, last)| last).max();
         let (Some(first), Some(last)) = (first, last) else {
             continue;
         };
-        for frame in first..=last {
-            let value = value_of(&of_group, kind, frame);
+        for (frame, value) in values(&of_group, kind, width, first..=last) {
             let row = rows.iter().find(|row| row.contains(group, frame));
             match (value, row) {
                 (Some(value), Some(row)) => {
@@ -819,7 +866,7 @@ mod tests {
     }
 
     fn outcome(rule: u8, bound: u16, log: &[u8]) -> Result<(usize, u64), u8> {
-        query(0, rule, bound, log, 768)
+        query(0, rule, bound, 1, log, 768)
             .map(|answer| (answer.rows.len(), answer.error))
             .map_err(|no| no.question)
     }
@@ -827,7 +874,7 @@ mod tests {
     #[test]
     fn log_g_played_through() {
         let log = log_g();
-        assert_eq!(segments(&log, 0, 255).unwrap().len(), 6);
+        assert_eq!(segments(&log, 0, 1, 255).unwrap().len(), 6);
         assert_eq!(outcome(ROWS, 2, &log), Err(10));
         assert_eq!(outcome(ROWS, 3, &log), Ok((3, 40_087)));
         assert_eq!(outcome(ROWS, 4, &log), Ok((4, 11_280)));
@@ -836,7 +883,7 @@ mod tests {
         assert_eq!(outcome(ROWS, 64, &log), Ok((6, 0)));
         assert_eq!(outcome(SHARE, 281, &log), Ok((5, 67)));
         assert_eq!(outcome(SHARE, 282, &log), Ok((4, 11_280)));
-        assert_eq!(query(0, ROWS, 4, &log, 768).unwrap().weighed, 16);
+        assert_eq!(query(0, ROWS, 4, 1, &log, 768).unwrap().weighed, 16);
     }
 
     #[test]
@@ -849,7 +896,7 @@ mod tests {
         assert_eq!(outcome(ROWS, 2, &frames(&[0, 4, 8])), Ok((2, 8)));
         assert_eq!(outcome(ROWS, 1, &frames(&[0, 1, 1])), Ok((1, 1)));
         assert_eq!(outcome(ROWS, 0, &[]), Ok((0, 0)));
-        let early = query(0, ROWS, 2, &frames(&[0, 1, 2, 100]), 768).unwrap();
+        let early = query(0, ROWS, 2, 1, &frames(&[0, 1, 2, 100]), 768).unwrap();
         assert_eq!(early.weighed, 5);
     }
 
@@ -859,7 +906,7 @@ mod tests {
     fn halves() {
         let one_row = |kind, half, loads: &[u16]| {
             let records: Vec<_> = (0u16..).zip(loads).map(|(f, l)| (0, f, f, *l)).collect();
-            let found = segments(&log(&records), kind, 255).unwrap();
+            let found = segments(&log(&records), kind, 1, 255).unwrap();
             let answer = reduce_by(&found, kind, half, ROWS, 1).unwrap();
             (answer.rows[0].value, answer.error)
         };
@@ -879,7 +926,7 @@ mod tests {
     #[test]
     fn means() {
         let values = |records: &[(u8, u16, u16, u16)]| -> Vec<u32> {
-            let segments = segments(&log(records), 4, 255).unwrap();
+            let segments = segments(&log(records), 4, 1, 255).unwrap();
             segments.iter().map(|segment| segment.value).collect()
         };
         assert_eq!(values(&[(0, 0, 0, 1), (0, 0, 0, 2)]), [150]);
@@ -889,7 +936,7 @@ mod tests {
             values(&[(0, 5, 5, 999), (0, 5, 6, 1000)]),
             [99_950, 100_000]
         );
-        let answer = query(4, ROWS, 4, &log_g(), 768).unwrap();
+        let answer = query(4, ROWS, 4, 1, &log_g(), 768).unwrap();
         assert_eq!((answer.error, answer.weighed), (25_666_667, 16));
         let rows: Vec<_> = answer
             .rows
@@ -900,7 +947,7 @@ mod tests {
             rows,
             [(0, 3, 12_500), (4, 6, 20_333), (9, 10, 5_000), (0, 0, 700)]
         );
-        assert_eq!(segments(&[], 5, 255).unwrap_err().question, 2);
+        assert_eq!(segments(&[], 5, 1, 255).unwrap_err().question, 2);
     }
 
     /// Rows of the greatest load: the greatest value of a block, and the error taken from it. The
@@ -908,7 +955,7 @@ mod tests {
     #[test]
     fn greatest() {
         let rows = |rule, bound, log: &[u8]| -> (Vec<u32>, u64) {
-            let answer = query(GREATEST, rule, bound, log, 768).unwrap();
+            let answer = query(GREATEST, rule, bound, 1, log, 768).unwrap();
             let values = answer.rows.iter().map(|row| row.value).collect();
             (values, answer.error)
         };
@@ -924,7 +971,7 @@ mod tests {
         assert_eq!(rows(SHARE, 26, &g), four);
         assert_eq!(rows(SHARE, 16, &g), (vec![100, 200, 210, 50, 7], 0));
         // With the rule of another kind for row values.
-        let by_means = reduce(&segments(&g, GREATEST, 255).unwrap(), 0, ROWS, 3).unwrap();
+        let by_means = reduce(&segments(&g, GREATEST, 1, 255).unwrap(), 0, ROWS, 3).unwrap();
         assert_eq!((by_means.rows[0].value, by_means.error), (173, 14_943));
     }
 
@@ -1016,9 +1063,9 @@ mod tests {
             let twice = [&g, again].concat();
             for kind in 0..=MOST_KIND {
                 let refused = no(21, 5);
-                assert_eq!(segments(&twice, kind, 255), Err(refused));
-                assert_eq!(query(kind, ROWS, 0, &twice, 768), Err(refused));
-                assert_eq!(query(kind, SHARE, 300, &twice, 768), Err(refused));
+                assert_eq!(segments(&twice, kind, 1, 255), Err(refused));
+                assert_eq!(query(kind, ROWS, 0, 1, &twice, 768), Err(refused));
+                assert_eq!(query(kind, SHARE, 300, 1, &twice, 768), Err(refused));
                 assert_eq!(query_beats(kind, 1, 0, &twice, 768), Err(refused));
                 assert_eq!(query_scenes(kind, &[0], &[9], &twice, 768), Err(refused));
             }
@@ -1028,8 +1075,8 @@ mod tests {
         assert_eq!(query_beats(0, 1, 0, &wide, 768), Err(no(21, 1)));
         assert_eq!(query_beats(0, 1, 0, &wide[..9], 768), Err(no(20, 0)));
         // Ahead of 21: the call's own questions, the length, the count, and a bad record before.
-        assert_eq!(query(5, ROWS, 65, &wide, 768), Err(no(2, 0)));
-        assert_eq!(query(0, ROWS, 65, &wide, 768), Err(no(3, 0)));
+        assert_eq!(query(5, ROWS, 65, 1, &wide, 768), Err(no(2, 0)));
+        assert_eq!(query(0, ROWS, 65, 1, &wide, 768), Err(no(3, 0)));
         assert_eq!(query_beats(0, 0, 0, &wide, 768), Err(no(18, 0)));
         assert_eq!(query_scenes(0, &[1], &[0], &wide, 768), Err(no(19, 0)));
         assert_eq!(ask_log(&[&wide[..], &[0x4C]].concat()), Err(no(4, 0)));
@@ -1116,7 +1163,7 @@ mod tests {
     #[test]
     fn slot_against_log_g() {
         let g = log_g();
-        let asked = |slot: &[u8]| check(&g, slot).map_err(|no| (no.question, no.index));
+        let asked = |slot: &[u8]| check(&g, 1, slot).map_err(|no| (no.question, no.index));
         let rows = [(0, 0, 1, 100), (0, 2, 6, 242), (0, 9, 10, 50), (1, 0, 0, 7)];
         let sum = |error, rows: &[_]| asked(&slot(0, error, rows));
         assert_eq!(sum(11_280, &rows), Ok(()));
@@ -1166,7 +1213,7 @@ mod tests {
         by_windows[1] = BY_WINDOWS;
         assert_eq!(asked(&by_windows), Err((11, 0)));
         assert_eq!(asked(&right[..767]), Err((1, 0)));
-        let question = |log: &[u8], slot: &[u8]| check(log, slot).unwrap_err();
+        let question = |log: &[u8], slot: &[u8]| check(log, 1, slot).unwrap_err();
         assert_eq!(question(&g[..44], &right[..767]).question, 1);
         assert_eq!(question(&g[..44], &by_windows).question, 4);
         let twice = [&g[..], &g[..9]].concat();
@@ -1188,25 +1235,134 @@ mod tests {
     #[test]
     fn slot_against_ends() {
         for kind in 0..=MOST_KIND {
-            assert_eq!(check(&[], &slot(kind, 0, &[])), Ok(()));
-            let question = |slot: Vec<u8>| check(&[], &slot).unwrap_err().question;
+            assert_eq!(check(&[], 1, &slot(kind, 0, &[])), Ok(()));
+            let question = |slot: Vec<u8>| check(&[], 1, &slot).unwrap_err().question;
             assert_eq!(question(slot(kind, 1, &[])), 24);
             assert_eq!(question(slot(kind, 0, &[(0, 0, 0, 0)])), 22);
         }
         let last = log(&[(7, 65_535, 65_535, 9)]);
-        assert_eq!(check(&last, &slot(0, 0, &[(7, 65_535, 65_535, 9)])), Ok(()));
+        assert_eq!(
+            check(&last, 1, &slot(0, 0, &[(7, 65_535, 65_535, 9)])),
+            Ok(())
+        );
         let two = slot(0, 0, &[(7, 65_534, 65_535, 9)]);
-        assert_eq!(check(&last, &two).unwrap_err().question, 22);
+        assert_eq!(check(&last, 1, &two).unwrap_err().question, 22);
         let everywhere: Vec<_> = (0..8).map(|group| (group, 0, 65_535, 0)).collect();
         let rows: Vec<_> = (0..8).map(|group| (group, 0, 65_535, 128_000)).collect();
         let error = 8 * 65_536 * 128_000 * 128_000;
         assert_eq!(error, 8_589_934_592_000_000);
-        assert_eq!(check(&log(&everywhere), &slot(0, error, &rows)), Ok(()));
+        assert_eq!(check(&log(&everywhere), 1, &slot(0, error, &rows)), Ok(()));
         let one_less = slot(0, error - 1, &rows);
         assert_eq!(
-            check(&log(&everywhere), &one_less).unwrap_err().question,
+            check(&log(&everywhere), 1, &one_less).unwrap_err().question,
             24
         );
+    }
+
+    /// Log G with a memory of three frames: its records count in frames 0 to 5, 2 to 7, 6 to 8, 9 to 12
+    /// and, of group 1, 0 to 2. Frames 7 and 8 are covered now, so that group 0 is one run.
+    #[test]
+    fn memory_of_g() {
+        let g = log_g();
+        let found = |width| fields(&segments(&g, 0, width, 255).unwrap());
+        let three = [
+            (0, 0, 1, 100),
+            (0, 2, 5, 300),
+            (0, 6, 7, 410),
+            (0, 8, 8, 210),
+            (0, 9, 12, 50),
+            (1, 0, 2, 7),
+        ];
+        assert_eq!(found(3), three);
+        // With two frames frame 8 is uncovered.
+        let two = found(2);
+        assert_eq!(two[3..6], [(0, 6, 6, 410), (0, 7, 7, 210), (0, 9, 11, 50)]);
+        assert_eq!((two.len(), runs(&segments(&g, 0, 2, 255).unwrap())), (7, 3));
+        // With eleven, all that was is still there at frame 10; the last to be left is frame 20.
+        let eleven = found(11);
+        assert!(eleven.contains(&(0, 9, 13, 560)) && eleven.contains(&(0, 17, 20, 50)));
+
+        let error = |rule, bound| {
+            let answer = query(0, rule, bound, 3, &g, 768).unwrap();
+            (answer.rows.len(), answer.error)
+        };
+        assert!(query(0, ROWS, 1, 3, &g, 768).is_err());
+        assert_eq!(error(ROWS, 2), (2, 238_232));
+        assert_eq!(error(ROWS, 3), (3, 104_200));
+        assert_eq!(error(ROWS, 4), (4, 29_887));
+        assert_eq!(error(ROWS, 5), (5, 16_134));
+        assert_eq!(error(ROWS, 64), (6, 0));
+        assert_eq!(error(SHARE, 126), (4, 29_887));
+        assert_eq!(error(SHARE, 125), (5, 16_134));
+        let rows = fields(&query(0, ROWS, 4, 3, &g, 768).unwrap().rows);
+        let four = [(0, 0, 1, 100), (0, 2, 8, 319), (0, 9, 12, 50), (1, 0, 2, 7)];
+        assert_eq!(rows, four);
+
+        // The slot passes with its own width; with others its cover is another one.
+        let slot = slot(0, 29_887, &four);
+        for width in [1, 2, 3, 4, MOST_WIDTH] {
+            let asked = check(&g, width, &slot).map_err(|no| no.question);
+            assert_eq!(asked, if width == 3 { Ok(()) } else { Err(22) });
+        }
+    }
+
+    /// There is no frame behind 65,535 and none before 0, and a gap is closed by as many frames less
+    /// one. Records that differ in their last frame alone are no twins, also where both are remembered
+    /// to the last frame of all.
+    #[test]
+    fn memory_at_the_ends() {
+        let found = |records: &[_], kind, width| {
+            fields(&segments(&log(records), kind, width, 255).unwrap())
+        };
+        for (last, width) in [(65_535, 1), (65_535, 4096), (65_476, 60), (61_440, 4096)] {
+            let record = [(7, 61_000, last, 9)];
+            assert_eq!(found(&record, 0, width), [(7, 61_000, 65_535, 9)]);
+        }
+        for (last, width) in [(65_475, 60), (61_439, 4096), (65_534, 1)] {
+            let record = [(7, 61_000, last, 9)];
+            assert_eq!(found(&record, 0, width), [(7, 61_000, 65_534, 9)]);
+        }
+        assert_eq!(found(&[(0, 0, 0, 9)], 0, 4096), [(0, 0, 4095, 9)]);
+        assert_eq!(
+            found(&[(3, 65_535, 65_535, 9)], 1, 60),
+            [(3, 65_535, 65_535, 1)]
+        );
+        // Frames 10 to 12 lie between the two, and frames 10 to 13.
+        let apart = |next| [(2, 0, 9, 5), (2, next, next, 5)];
+        assert_eq!(found(&apart(13), 0, 4), [(2, 0, 16, 5)]);
+        assert_eq!(found(&apart(14), 0, 4), [(2, 0, 12, 5), (2, 14, 17, 5)]);
+        let pair = [(4, 65_000, 65_533, 7), (4, 65_000, 65_534, 7)];
+        assert_eq!(found(&pair, 0, 3), [(4, 65_000, 65_535, 14)]);
+        assert_eq!(
+            found(&pair, 1, 2),
+            [(4, 65_000, 65_534, 2), (4, 65_535, 65_535, 1)]
+        );
+    }
+
+    /// Question 25, its place among the others, and that it is not asked by windows.
+    #[test]
+    fn widths_asked() {
+        for width in [1, 2, 60, 4095, 4096] {
+            assert!(right_width(width));
+        }
+        for width in [0, 4097, 65_535] {
+            assert!(!right_width(width));
+            let asked = |kind, rule, bound, log: &[u8], room| {
+                let no = query(kind, rule, bound, width, log, room).unwrap_err();
+                (no.question, no.index)
+            };
+            assert_eq!(asked(5, 0, 65, &[0], 767), (1, 0));
+            assert_eq!(asked(5, 0, 65, &[0], 768), (2, 0));
+            assert_eq!(asked(4, 0, 4, &[0], 768), (3, 0));
+            assert_eq!(asked(4, ROWS, 65, &[0], 768), (3, 0));
+            assert_eq!(asked(4, ROWS, 0, &[0], 768), (25, 0));
+            assert_eq!(asked(4, SHARE, 0, &log_g(), 768), (25, 0));
+            let listed = |kind, places| segments(&[0], kind, width, places).unwrap_err().question;
+            assert_eq!([listed(5, 254), listed(5, 255), listed(4, 255)], [1, 2, 25]);
+            let held = |slot: &[u8]| check(&[0], width, slot).unwrap_err().question;
+            assert_eq!([held(&[0; 767]), held(&[0; 768])], [1, 25]);
+        }
+        assert_eq!(check(&[0], 4096, &[0; 768]).unwrap_err().question, 4);
     }
 
     /// Both headers; an error under that of windows is asked of after the rows.
@@ -1243,7 +1399,7 @@ mod tests {
             (1, 4, 5, 500),
             (1, 7, 8, 500),
         ]);
-        let segments = segments(&log, 0, 255).unwrap();
+        let segments = segments(&log, 0, 1, 255).unwrap();
         let mut table = Table::new(&segments, 0, Half::Upper);
         for _ in 0..4 {
             table.grow();

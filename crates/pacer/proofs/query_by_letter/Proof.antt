@@ -15,12 +15,12 @@ use Rattle.pacer.proofs.query_by_letter.Statement.{statement}
 use Rattle.pacer.proofs.query_by_letter.Tie as tie
 
 -- what is said and what the slot holds, with what they promise
-kept : (kind letter x : ℕ) (log slot : List ℕ) {says : Outcome Counts} {after : List ℕ}
-    → says ≡ letterOutcome kind letter x log (length slot) → after ≡ letterSlot kind letter x log slot
-    → (says ≡ letterOutcome kind letter x log (length slot))
-    × ((after ≡ letterSlot kind letter x log slot) × LetterPromise kind letter x log slot says after)
-kept kind letter x log slot {says} {after} answers holds =
-    (answers, (holds, letter-promise kind letter x log slot says after answers holds))
+kept : (kind letter x width : ℕ) (log slot : List ℕ) {says : Outcome Counts} {after : List ℕ}
+    → says ≡ letterOutcome kind letter x width log (length slot) → after ≡ letterSlot kind letter x width log slot
+    → (says ≡ letterOutcome kind letter x width log (length slot))
+    × ((after ≡ letterSlot kind letter x width log slot) × LetterPromise kind letter x width log slot says after)
+kept kind letter x width log slot {says} {after} answers holds =
+    (answers, (holds, letter-promise kind letter x width log slot says after answers holds))
 
 query-by-bound-requires : tie.Need-query-by-bound-requires
 query-by-bound-requires c κs = search needs
@@ -34,9 +34,9 @@ returns c =
     let t = c .before .before .before .before in
     let a = t .before .before .before .args in
     let e = c .before .before .query-by-bound .ensures in
-    let says = by-letter (a .kind) (a .letter) (a .bound) (a .log .now) (a .slot .now) (Rows (a .bound))
+    let says = by-letter (a .kind) (a .letter) (a .bound) (a .width) (a .log .now) (a .slot .now) (Rows (a .bound))
     (simp (eq-eqb _ _ (t .if1 .taken))) in
-    kept (a .kind) (a .letter) (a .bound) (a .log .now) (a .slot .now) (e .0 ∙ says .0) (e .1 .0 ∙ says .1)
+    kept (a .kind) (a .letter) (a .bound) (a .width) (a .log .now) (a .slot .now) (e .0 ∙ says .0) (e .1 .0 ∙ says .1)
 
 query-by-bound-requires-2 : tie.Need-query-by-bound-requires-2
 query-by-bound-requires-2 c κs = search needs
@@ -50,9 +50,9 @@ returns-2 c =
     let t = c .before .before .before .before in
     let a = t .before .before .before .before .args in
     let e = c .before .before .query-by-bound2 .ensures in
-    let says = by-letter (a .kind) (a .letter) (a .bound) (a .log .now) (a .slot .now) (Share (a .bound))
+    let says = by-letter (a .kind) (a .letter) (a .bound) (a .width) (a .log .now) (a .slot .now) (Share (a .bound))
     (simp (ne-eqb _ _ (t .before .if1 .left), eq-eqb _ _ (t .if2 .taken))) in
-    kept (a .kind) (a .letter) (a .bound) (a .log .now) (a .slot .now) (e .0 ∙ says .0) (e .1 .0 ∙ says .1)
+    kept (a .kind) (a .letter) (a .bound) (a .width) (a .log .now) (a .slot .now) (e .0 ∙ says .0) (e .1 .0 ∙ says .1)
 
 refuse-letter-requires : tie.Need-refuse-letter-requires
 refuse-letter-requires c κs = search needs
@@ -62,9 +62,9 @@ unfolding boundOf
 returns-3 c =
     let t = c .before in
     let a = t .before .before .before .before .args in
-    let says = no-letter (a .kind) (a .letter) (a .bound) (a .log .now) (a .slot .now)
+    let says = no-letter (a .kind) (a .letter) (a .bound) (a .width) (a .log .now) (a .slot .now)
     (simp (ne-eqb _ _ (t .before .if1 .left), ne-eqb _ _ (t .if2 .left))) in
-    kept (a .kind) (a .letter) (a .bound) (a .log .now) (a .slot .now) (c .refuse-letter .ensures ∙ says .0) (says .1)
+    kept (a .kind) (a .letter) (a .bound) (a .width) (a .log .now) (a .slot .now) (c .refuse-letter .ensures ∙ says .0) (says .1)
 
 pub query-by-letter-spec : {M : Type 1} → statement M
 query-by-letter-spec =

@@ -7,10 +7,10 @@ use Rattle.model.specs.Spans.{Span}
 use Rattle.model.specs.Log.{records}
 use Rattle.model.specs.Windows.{windows, spanRows}
 use Rattle.model.specs.Slot.{slotLength}
-use Rattle.model.specs.Questions.{mostRecords, logQuestions, windowRows, ruledOrder}
+use Rattle.model.specs.Questions.{mostRecords, logQuestions, windowRows, ruledOrder, widthQuestions}
 use Rattle.model.specs.Arrays.{recordsIn}
 use Rattle.model.specs.Demands.{AllPass}
-use Rattle.theory.proofs.Refusals.{all-head, all-tail}
+use Rattle.theory.proofs.Refusals.{all-head, all-tail, all-right}
 use Rattle.log.proofs.Asking.{few-records, decoded-count}
 use Rattle.log.proofs.Columns.{records-held}
 use Rattle.windows.specs.Listed.{Lists}
@@ -26,7 +26,7 @@ Log c = c .before .args .log .now
 
 logged : (c : tie.After-shared-slice-known) → AllPass (logQuestions (Log c))
 unfolding ruledOrder
-logged c = all-tail _ _ (all-tail _ _ (c .before .pre))
+logged c = all-right (widthQuestions (c .before .args .query)) _ (all-tail _ _ (all-tail _ _ (c .before .pre)))
 
 -- what stands once the records are decoded
 abbrev Decoded : tie.After-rows → tie.After-decode

@@ -20,14 +20,14 @@ enum-told c = search needs
 -- those ahead of the last are passed
 early : (c : tie.After-enum-told) →
     let a = c .before .before .before .before .before .args in
-    outcome (aheadOf20 (a .query) (a .log .now) (a .room)) (tt {0}) ≡ accepted tt
+    outcome (aheadOf20 (a .query) (a .log .now) (a .room) (c .before .before .before .before .before .pre)) (tt {0}) ≡ accepted tt
 unfolding askedCase
 early c =
     let k = c .before .before in
     sym (k .ask .ensures _ (k .before .ask-windows .ensures)) ∙ ap askedCase (c .enum-told .given .1)
 
 list-requires : tie.Need-list-requires
-list-requires c κs = windows-in-order _ _ _ (early c)
+list-requires c κs = windows-in-order _ _ _ (c .before .before .before .before .before .pre) (early c)
 
 enum-known-asked : tie.Need-enum-known-asked
 enum-known-asked c = search needs
@@ -37,7 +37,7 @@ no-slot-requires c κs = search needs
 
 returns : tie.Need-returns
 unfolding ruledOutcome
-returns c = windows-laid-out _ _ _ (early (c .before)) (c .before .before .before .before .before .before .pre) (c .list .result) (c .list .ensures)
+returns c = windows-laid-out _ _ _ (c .before .before .before .before .before .before .pre) (early (c .before)) (c .list .result) (c .list .ensures)
 
 returns-2 : tie.Need-returns-2
 unfolding askedCase ruledOutcome slotLength
@@ -45,7 +45,7 @@ returns-2 c =
     let k = c .before .before .before .before in
     let a = k .before .before .before .args in
     let says = sym (k .ask .ensures _ (k .before .ask-windows .ensures)) ∙ ap askedCase (c .before .before .asked .given .1) in
-    let r = refused-windows (a .query) (a .log .now) (a .room) _ says in
+    let r = refused-windows (a .query) (a .log .now) (a .room) (k .before .before .before .pre) _ says in
     (r .0, c .no-slot .ensures ∙ r .1)
 
 pub prepare-by-windows-spec : {M : Type 1} → statement M

@@ -1,32 +1,35 @@
--- `rules::ask_bound` meets its contract: a limit, or a share. Assumes nothing.
+-- `rules::ask_bound` meets its contract: 3, and then 25. Assumes nothing.
 use borrow.Author.Needs.{needs}
-use mathlib.Core.Path.{_∙_}
-use Rattle.model.specs.Split.{mostRows}
-use Rattle.model.specs.Questions.{boundKnown}
+use mathlib.Core.Path.{ap, _∙_}
+use Rattle.model.specs.Questions.{ask, askWidth, outcome}
+use Rattle.model.specs.Calls.{askedCase}
+use Rattle.theory.proofs.Asking.{denied, granted}
 use Rattle.rules.proofs.ask_bound.Statement.{statement}
 use Rattle.rules.proofs.ask_bound.Tie as tie
 
-enum-known-bound : tie.Need-enum-known-bound
-enum-known-bound c = search needs
+bound-is-known-requires : tie.Need-bound-is-known-requires
+bound-is-known-requires c κs = search needs
 
-enum-known-bound-2 : tie.Need-enum-known-bound-2
-enum-known-bound-2 c = search needs
+no-requires : tie.Need-no-requires
+no-requires c κs = search needs
+
+returns : tie.Need-returns
+unfolding outcome ask askedCase
+returns c = rw (denied (c .before .before .bound-is-known .ensures) (c .before .if1 .taken)) (ap askedCase (c .no .ensures))
+
+is-width-requires : tie.Need-is-width-requires
+is-width-requires c κs = search needs
 
 said-requires : tie.Need-said-requires
 said-requires c κs = search needs
 
-said-requires-2 : tie.Need-said-requires-2
-said-requires-2 c κs = search needs
-
-returns : tie.Need-returns
-unfolding boundKnown mostRows
-returns c = c .said .ensures ∙ rw (c .before .before .bound .given .1)
-
 returns-2 : tie.Need-returns-2
-unfolding boundKnown
-returns-2 c = c .said2 .ensures ∙ rw (c .before .before .bound2 .given .1)
+unfolding outcome ask askWidth
+returns-2 c =
+    rw (granted (c .before .before .before .bound-is-known .ensures) (c .before .before .if1 .left))
+    (c .said .ensures ∙ rw (c .before .is-width .ensures))
 
 pub ask-bound-spec : {M : Type 1} → statement M
 ask-bound-spec =
     tie.close
-    (tie.spec enum-known-bound said-requires enum-known-bound-2 said-requires-2 returns returns-2)
+    (tie.spec bound-is-known-requires no-requires returns is-width-requires said-requires returns-2)

@@ -28,8 +28,8 @@ Inv-loop groups firsts lasts loads count kind to-groups₀ to-firsts₀ to-lasts
     × Sized own-firsts own-lasts own-loads
     × Made (arraysOf to-groups to-firsts to-lasts to-values made)
     × (joined (segmentsIn (arraysOf to-groups to-firsts to-lasts to-values made)
-    ++ groupsFrom (value kind (spansIn groups firsts lasts loads count)) frameCount group (groupCount - group))
-    ≡ segments kind (spansIn groups firsts lasts loads count))
+    ++ groupsFrom (value kind 1 (spansIn groups firsts lasts loads count)) frameCount group (groupCount - group))
+    ≡ segments kind 1 (spansIn groups firsts lasts loads count))
 
 abbrev μ-loop : tie.MeasureT-loop
 μ-loop groups firsts lasts loads count kind to-groups₀ to-firsts₀ to-lasts₀ to-values₀ own-firsts₀ own-lasts₀ own-loads₀ made₀ group₀ to-groups to-firsts to-lasts to-values own-firsts own-lasts own-loads made group =
@@ -67,23 +67,23 @@ frames c =
 -- those of the groups left
 abbrev left : tie.At-loop Inv-loop μ-loop → List (Span ℕ)
 left c =
-    groupsFrom (value (c .before .args .kind) (records (c .before))) frameCount (suc (c .loop .group)) (groupCount - suc (c .loop .group))
+    groupsFrom (value (c .before .args .kind) 1 (records (c .before))) frameCount (suc (c .loop .group)) (groupCount - suc (c .loop .group))
 
 parts : (c : tie.After-select Inv-loop μ-loop)
     → joined (so-far (c .before .before .before .before .before) ++ frames c ++ left (c .before .before .before .before .before))
-    ≡ segments (c .before .before .before .before .before .before .args .kind) (records (c .before .before .before .before .before .before))
+    ≡ segments (c .before .before .before .before .before .before .args .kind) 1 (records (c .before .before .before .before .before .before))
 parts c =
     let h = c .before .before .before .before .before in
     let s = h .before in
     let kind = s .args .kind in
     let g = h .loop .group in
-    let of-group : frames c ≡ framesFrom (value kind (records s)) g 0 frameCount [] =
+    let of-group : frames c ≡ framesFrom (value kind 1 (records s)) g 0 frameCount [] =
     ap (λ (own : List Own). framesFrom (ownValue kind own) g 0 frameCount []) (c .select .ensures .1)
     ∙ sym (frames-own kind (records s) g (in-groups (c .before .before .before .before)) 0 frameCount (omega arith)) in
     ap joined (append-assoc (so-far h) (frames c) (left h))
     ∙ ap (λ (r : List (Span ℕ)). joined (so-far h ++ (r ++ left h))) of-group
     ∙ ap (λ (r : List (Span ℕ)). joined (so-far h ++ r))
-    (sym (groups-left (value kind (records s)) frameCount g groupCount (in-groups (c .before .before .before .before))))
+    (sym (groups-left (value kind 1 (records s)) frameCount g groupCount (in-groups (c .before .before .before .before))))
     ∙ h .loop .inv .3
 
 -- the segments made with this group
@@ -153,7 +153,7 @@ returns c =
     ∙ ap segmentArrays
     (ap joined (sym (append-nil (so-far h)))
     ∙ ap (λ (r : List (Span ℕ)). joined (so-far h ++ r))
-    (sym (groups-past (value (s .args .kind) (records s)) frameCount (h .loop .group) groupCount (at-end c)))
+    (sym (groups-past (value (s .args .kind) 1 (records s)) frameCount (h .loop .group) groupCount (at-end c)))
     ∙ h .loop .inv .3)
 
 pub find-spec : {M : Type 1} → statement M

@@ -1,0 +1,80 @@
+-- `memory::records` meets its contract. The loop's invariant: the last frames of the first records are moved. Assumes nothing.
+use borrow.Author.Needs.{needs}
+use Prim.Native.Nat.{ℕ, _≤_, _<_, _-_}
+use mathlib.Core.Path.{_≡_, refl, sym, ap, _∙_}
+use native.Mathlib.Omega.{arith}
+use lib.ListN.{length, getD}
+use Rattle.memory.proofs.Moving.{Moved, none-moved, one-more, of-log, all-moved}
+use Rattle.memory.proofs.records.Statement.{statement}
+use Rattle.memory.proofs.records.Tie as tie
+use Rattle.memory.proofs.records.Reads as reads
+use Rattle.memory.proofs.records.Lts as lts
+use Rattle.log.proofs.decode.Reads as decode-reads
+use Rattle.memory.proofs.later.Reads as later-reads
+
+abbrev Inv-loop : tie.InvT-loop
+Inv-loop log width records₀ count index₀ records index =
+    (index ≤ count) × (count ≤ 128) × (length (records₀ .lasts) ≡ 128) × Moved width records₀ records index
+
+abbrev μ-loop : tie.MeasureT-loop
+μ-loop log width records₀ count index₀ records index = count - index
+
+decode-requires : tie.Need-decode-requires Inv-loop μ-loop
+decode-requires c κs = c .before .pre .0
+
+loop-holds : tie.Need-loop-holds Inv-loop μ-loop
+loop-holds c =
+    let (few, places) = of-log (c .before .before .args .log .now) (c .decode .result) (c .before .before .pre .0) (c .decode .ensures) in
+    (omega arith, few, places, none-moved _ _)
+
+mul-later : tie.Need-mul-later Inv-loop μ-loop
+mul-later c = omega arith
+
+element-copy-out-later : tie.Need-element-copy-out-later Inv-loop μ-loop
+element-copy-out-later c = omega arith
+
+later-requires : tie.Need-later-requires Inv-loop μ-loop
+later-requires c κs = c .before .before .before .before .before .pre .1
+
+mul-records : tie.Need-mul-records Inv-loop μ-loop
+mul-records c = omega arith
+
+element-write-records : tie.Need-element-write-records Inv-loop μ-loop
+element-write-records c = omega arith
+
+add-index : tie.Need-add-index Inv-loop μ-loop
+add-index c = omega arith
+
+loop-less : tie.Need-loop-less Inv-loop μ-loop
+loop-less c = omega arith
+
+loop-again : tie.Need-loop-again Inv-loop μ-loop
+loop-again c =
+    let s = c .before .before .before in
+    let (inside, few, places, m) = s .loop .inv in
+    (omega arith, few, places, one-more _ _ (s .loop .records) (s .loop .index) (c .later .result) m (omega arith) (c .later .ensures))
+
+returns : tie.Need-returns Inv-loop μ-loop
+returns c =
+    let s = c .before in
+    let (inside, few, places, m) = s .loop .inv in
+    let done : s .loop .index ≡ s .before .decode .result .count = omega arith in
+    all-moved _ _ (s .before .decode .result) (s .loop .records) (s .before .decode .ensures) few (rw done at m)
+
+pub records-spec : {M : Type 1} → statement M
+records-spec =
+    tie.close
+    (tie.spec
+    Inv-loop
+    μ-loop
+    decode-requires
+    loop-holds
+    mul-later
+    element-copy-out-later
+    later-requires
+    mul-records
+    element-write-records
+    add-index
+    loop-less
+    loop-again
+    returns)
