@@ -15,10 +15,9 @@ fn later(last: u16, width: u16) -> u16
 {
     let more = width - 1;
     if last > 65535 - more {
-        65535
-    } else {
-        last + more
+        return 65535;
     }
+    last + more
 }
 
 // Records that have, without a memory, the values that a log's records have with one.

@@ -47,3 +47,4 @@ pub mod RefutedWindows
 pub mod RefutedTwins
 pub mod RefutedOrder
 pub mod RefutedCheck
+pub mod RefutedMemory

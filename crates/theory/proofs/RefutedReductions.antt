@@ -340,7 +340,7 @@ bytes-only (b ∷ rest) h zero = ltb-true b 256 (and-true (ltb b 256) _ h .0)
 bytes-only (b ∷ rest) h (suc i) = bytes-only rest (and-true (ltb b 256) _ h .1) i
 
 -- G passes the questions of a log
-logged-G : AllPass (fileQuestions (bytes log-G))
+pub logged-G : AllPass (fileQuestions (bytes log-G))
 unfolding kindKnown boundKnown mostRows orderQuestions
 logged-G = file-passed (bytes log-G) (all-tail _ _ (all-tail _ _ (all-tail _ _ (in-order 0 (Rows 4) refl refl))))
 
