@@ -330,23 +330,6 @@ pub last-frame : (value 0 1 (span 0 65535 65535 5 ∷ []) 0 65535 ≡ some 5)
 unfolding horizon sumFrom sumOf every listFrom isSome numberAt bytesOf groupCount frameCount spanLength meets adjacent nowhere recordLength recordBytes recordAt recordCount twins isFirst records meeting sum aggregate aggregated value join fuse place framesFrom groupsFrom segmentsOf segmentAt gap lastGap runsTo block empty totalsOf add totals nearest valueFor rowValue squared errorWith blockError rowOf untried plus below exceeds weigh scan single cell least weighed cutsOf rowsOf fewest within firstThat mostRows chosen rowsTried errorOf gapBelow runs leastOf countFor reducedTo reduced slotLength ask outcome each marked askRoom kindKnown boundKnown groupKnown spanQuestions recordQuestions twinQuestions mostRecords logQuestions widthKnown askWidth orderQuestions countsOf outcomeOn
 last-frame = (refl, refl, refl)
 
--- ---- the ends of a memory: w − 1 frames behind a record's last one and no further, none before its first, and none past 65,535
-
-abbrev one-load : ℕ → List (Span ℕ)
-one-load f = span 0 f f 5 ∷ []
-
-pub memory-ends : (value 0 4096 (one-load 0) 0 0 ≡ some 5)
-    × (value 0 4096 (one-load 0) 0 4095 ≡ some 5)
-    × (value 0 4096 (one-load 0) 0 4096 ≡ none)
-    × (value 0 4096 (one-load 9) 0 8 ≡ none)
-    × (value 0 2 (one-load 65534) 0 65535 ≡ some 5)
-    × (value 0 2 (one-load 65533) 0 65535 ≡ none)
-    × (value 0 2 (one-load 65535) 0 65535 ≡ some 5)
-    × (value 0 2 (one-load 65535) 0 65536 ≡ none)
-    × (value 0 2 (one-load 3) 1 3 ≡ none)
-unfolding groupCount frameCount meets meeting sum aggregate aggregated value
-memory-ends = (refl, refl, refl, refl, refl, refl, refl, refl, refl)
-
 -- ---- slots by their bytes
 
 -- rows laid out under a kind and an error, their bytes up to the zeros, what the reader says of the slot, and the rows read

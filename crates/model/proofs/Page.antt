@@ -32,7 +32,9 @@ meeting-none width (r ∷ rs) g f h =
 -- past the page no frame has a value
 pub value-none : (kind width : ℕ) (rs : List (Span ℕ)) (g f : ℕ) → horizon width rs ≤ f → value kind width rs g f ≡ none
 unfolding value aggregated
-value-none kind width rs g f h = rw (meeting-none width rs g f h) (either (ltb g groupCount && ltb f frameCount))
+value-none kind width rs g f h =
+    let inside = ltb g groupCount && ltb f frameCount in
+    ap (λ loads. cond inside (aggregated kind loads) none) (meeting-none width rs g f h) ∙ either inside
   where
     either : (b : Bool) → cond {A = Option ℕ} b none none ≡ none
     either true = refl

@@ -1,10 +1,12 @@
--- Widths, shown of the definitions: which are known, and where question 25 stands. Assumes nothing.
+-- Widths, shown of the definitions: the ends of a memory, which widths are known, and where question 25 stands. Assumes nothing.
 use Prim.Native.Nat.{ℕ}
 use mathlib.Core.Bool.{true, false}
 use mathlib.Core.List.{List, [], _∷_}
+use mathlib.Core.Option.{none, some}
 use mathlib.Core.Path.{_≡_, refl}
 use lib.ListN.{replicate}
-use Rattle.model.specs.Log.{recordLength, recordCount}
+use Rattle.model.specs.Spans.{Span, groupCount, frameCount, meets}
+use Rattle.model.specs.Log.{recordLength, recordCount, meeting, sum, aggregate, aggregated, value}
 use Rattle.model.specs.Split.{mostRows}
 use Rattle.model.specs.Windows.{boundIn}
 use Rattle.model.specs.Slot.{slotLength}
@@ -13,6 +15,23 @@ use Rattle.model.specs.Calls.{ruleOf, boundedQuery, beatQuery, boundOf, 
 use Rattle.model.specs.Check.{checkQuestions}
 use Rattle.model.specs.Demands.{withWidth}
 use Rattle.model.specs.declared.Bound.the-variants.{Rows, Share}
+
+-- one record, of one frame: w − 1 frames behind its last one and no further, none before its first, none past 65,535, and none of
+-- another group
+abbrev one-load : ℕ → List (Span ℕ)
+one-load f = record { group = 0; first = f; last = f; value = 5 } ∷ []
+
+pub memory-ends : (value 0 4096 (one-load 0) 0 0 ≡ some 5)
+    × (value 0 4096 (one-load 0) 0 4095 ≡ some 5)
+    × (value 0 4096 (one-load 0) 0 4096 ≡ none)
+    × (value 0 4096 (one-load 9) 0 8 ≡ none)
+    × (value 0 2 (one-load 65534) 0 65535 ≡ some 5)
+    × (value 0 2 (one-load 65533) 0 65535 ≡ none)
+    × (value 0 2 (one-load 65535) 0 65535 ≡ some 5)
+    × (value 0 2 (one-load 65535) 0 65536 ≡ none)
+    × (value 0 2 (one-load 3) 1 3 ≡ none)
+unfolding groupCount frameCount meets meeting sum aggregate aggregated value
+memory-ends = (refl, refl, refl, refl, refl, refl, refl, refl, refl)
 
 pub widths-known : (widthKnown 0 ≡ false) × (widthKnown 1 ≡ true) × (widthKnown 60 ≡ true) × (widthKnown 4096 ≡ true)
     × (widthKnown 4097 ≡ false) × (widthKnown 65535 ≡ false)
