@@ -3,7 +3,7 @@
 
 mod cases;
 
-use cases::{bytes, every_order, lines, no};
+use cases::{bytes, every_order, lines, listed, no};
 use pacer::{c, Kind, Query, Record, Reduction, Refusal, Rule, Scene, Segment};
 use pacer::{MOST_WIDTH, ROWS, SEGMENT_PLACES, SLOT_BYTES};
 
@@ -132,26 +132,6 @@ fn no_better(width: u16, log: &[u8], slot: &[u8]) {
     assert_eq!(check(width, log, &best), Ok(()));
 }
 
-/// Segments in the file of cases.
-fn list(words: &str) -> Vec<Segment> {
-    if words == "-" {
-        return Vec::new();
-    }
-    words
-        .split(' ')
-        .map(|word| {
-            let mut numbers = word.split(',').map(|number| number.parse::<u32>().unwrap());
-            let mut next = || numbers.next().unwrap();
-            Segment {
-                group: next() as u8,
-                first: next() as u16,
-                last: next() as u16,
-                value: next(),
-            }
-        })
-        .collect()
-}
-
 /// How often each question was the first 'no', and at place 0 how often there was none.
 type ByQuestion = [usize; 26];
 
@@ -187,7 +167,7 @@ fn as_worked_out() {
                 let places = usize::from(number(places));
                 let given = segments(number(kind) as u8, number(width), &bytes(log), places);
                 if let Ok(given) = &given {
-                    assert_eq!(given, &list(answer), "{line}");
+                    assert_eq!(given, &listed(answer), "{line}");
                 }
                 (1, width, given.map(|_| ()))
             }

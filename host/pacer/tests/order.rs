@@ -3,7 +3,7 @@
 
 mod cases;
 
-use cases::{bytes, every_order, frames, lines, no};
+use cases::{bytes, every_order, frames, lines, listed, no};
 use pacer::{Kind, Query, Reduction, Refusal, Rule, Scene, Segment};
 use pacer::{RECORDS, RECORD_BYTES, SEGMENT_PLACES, SLOT_BYTES};
 
@@ -92,7 +92,7 @@ fn case(line: &str) -> Case {
     };
     let answer = match answer.split_once(' ') {
         Some(("no", _)) => Err(no(answer).unwrap()),
-        _ if call == Call::Segments => Ok(Given::Segments(list(answer))),
+        _ if call == Call::Segments => Ok(Given::Segments(listed(answer))),
         Some((weighed, slot)) => Ok(slot_of(weighed.parse().unwrap(), slot)),
         None => Ok(slot_of(0, answer)),
     };
@@ -102,23 +102,6 @@ fn case(line: &str) -> Case {
         log: bytes(log),
         answer,
     }
-}
-
-/// Segments in a file of cases.
-fn list(words: &str) -> Vec<Segment> {
-    words
-        .split(' ')
-        .map(|word| {
-            let mut numbers = word.split(',').map(|number| number.parse::<u32>().unwrap());
-            let mut next = || numbers.next().unwrap();
-            Segment {
-                group: next() as u8,
-                first: next() as u16,
-                last: next() as u16,
-                value: next(),
-            }
-        })
-        .collect()
 }
 
 /// The answer of a query from the bytes of its slot up to the zeros.

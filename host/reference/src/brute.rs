@@ -346,6 +346,16 @@ pub fn later_twins(log: &[u8]) -> Vec<usize> {
 mod tests {
     use super::*;
 
+    fn record(group: u8, first: u16, last: u16, load: u16) -> Record {
+        Record {
+            mark: [0x4C, 0x44],
+            group,
+            first,
+            last,
+            load,
+        }
+    }
+
     /// All logs of up to six of three records, one of which is bad: the first twin is refused where
     /// no bad record is, and what is kept of a log without a bad one has no twins.
     #[test]
@@ -391,13 +401,6 @@ mod tests {
     /// both count.
     #[test]
     fn window_by_frames() {
-        let record = |group, first, last, load| Record {
-            mark: [0x4C, 0x44],
-            group,
-            first,
-            last,
-            load,
-        };
         let records = [
             record(3, 0, 10, 1),
             record(3, 4, 9, 2),
@@ -423,13 +426,6 @@ mod tests {
     /// before a frame as are remembered.
     #[test]
     fn memory_by_frames() {
-        let record = |group, first, last, load| Record {
-            mark: [0x4C, 0x44],
-            group,
-            first,
-            last,
-            load,
-        };
         let low = [record(3, 0, 1, 1), record(3, 4, 4, 2), record(5, 2, 9, 4)];
         let high = [record(0, 65_530, 65_531, 1), record(0, 65_535, 65_535, 2)];
         let found = covered_by_frames(&low, 0, 3, 0..=20);

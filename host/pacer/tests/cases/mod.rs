@@ -3,7 +3,7 @@
 // A test need not use all of it.
 #![allow(dead_code)]
 
-use pacer::{Refusal, RECORD_BYTES};
+use pacer::{Refusal, Segment, RECORD_BYTES};
 
 /// The lines of a file of cases.
 pub fn lines(file: &'static str) -> Vec<&'static str> {
@@ -38,6 +38,26 @@ pub fn frames(word: &str) -> Vec<u16> {
     }
     word.split(',')
         .map(|frame| frame.parse().unwrap())
+        .collect()
+}
+
+/// Segments in the file of cases.
+pub fn listed(words: &str) -> Vec<Segment> {
+    if words == "-" {
+        return Vec::new();
+    }
+    words
+        .split(' ')
+        .map(|word| {
+            let mut numbers = word.split(',').map(|number| number.parse::<u32>().unwrap());
+            let mut next = || numbers.next().unwrap();
+            Segment {
+                group: next() as u8,
+                first: next() as u16,
+                last: next() as u16,
+                value: next(),
+            }
+        })
         .collect()
 }
 
