@@ -100,6 +100,13 @@ all-moved width log was now held few m =
       same = λ kind. ap (value kind 1) longer-held ∙ sym (value-longer kind width (records log));
     }
 
+-- with width 1 there is nothing to move
+pub none-to-move : (width : ℕ) (log : List ℕ) (was : Records) → width ≡ 1 → was ≡ recordArrays (records log) → was .count ≤ 128
+    → Remembers width log was
+unfolding mostRecords
+none-to-move width log was is held few =
+    record { few = few; same = λ kind. rw is (ap (value kind 1) (ap recordsIn held ∙ records-held (records log))) }
+
 -- the segments of such records at width 1 are the log's at the width
 pub same-segments : (width : ℕ) (log : List ℕ) (arrays : Records) → Remembers width log arrays → (kind : ℕ)
     → segments kind 1 (recordsIn arrays) ≡ logSegments kind width log

@@ -27,6 +27,9 @@ pub fn records(log: &[u8], width: u16) -> Records
     ensures { λ r. ⌜ Remembers width (now (log .entry)) r ⌝ }
 {
     let mut records = log::decode(log);
+    if width == 1 {
+        return records;
+    }
     let count = records.count;
     for index in 0..count {
         records.lasts[index] = later(records.lasts[index], width);

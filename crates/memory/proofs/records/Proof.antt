@@ -4,7 +4,7 @@ use Prim.Native.Nat.{ℕ, _≤_, _<_, _-_}
 use mathlib.Core.Path.{_≡_, refl, sym, ap, _∙_}
 use native.Mathlib.Omega.{arith}
 use lib.ListN.{length, getD}
-use Rattle.memory.proofs.Moving.{Moved, none-moved, one-more, of-log, all-moved}
+use Rattle.memory.proofs.Moving.{Moved, none-moved, one-more, of-log, all-moved, none-to-move}
 use Rattle.memory.proofs.records.Statement.{statement}
 use Rattle.memory.proofs.records.Tie as tie
 use Rattle.memory.proofs.records.Reads as reads
@@ -22,9 +22,16 @@ abbrev μ-loop : tie.MeasureT-loop
 decode-requires : tie.Need-decode-requires Inv-loop μ-loop
 decode-requires c κs = c .before .pre .0
 
+returns : tie.Need-returns Inv-loop μ-loop
+returns c =
+    let d = c .before in
+    let few = of-log (d .before .before .args .log .now) (d .decode .result) (d .before .before .pre .0) (d .decode .ensures) .0 in
+    none-to-move _ _ (d .decode .result) (c .if1 .taken) (d .decode .ensures) few
+
 loop-holds : tie.Need-loop-holds Inv-loop μ-loop
 loop-holds c =
-    let (few, places) = of-log (c .before .before .args .log .now) (c .decode .result) (c .before .before .pre .0) (c .decode .ensures) in
+    let d = c .before in
+    let (few, places) = of-log (d .before .before .args .log .now) (d .decode .result) (d .before .before .pre .0) (d .decode .ensures) in
     (omega arith, few, places, none-moved _ _)
 
 mul-later : tie.Need-mul-later Inv-loop μ-loop
@@ -34,7 +41,7 @@ element-copy-out-later : tie.Need-element-copy-out-later Inv-loop μ-loop
 element-copy-out-later c = omega arith
 
 later-requires : tie.Need-later-requires Inv-loop μ-loop
-later-requires c κs = c .before .before .before .before .before .pre .1
+later-requires c κs = c .before .before .before .before .before .before .pre .1
 
 mul-records : tie.Need-mul-records Inv-loop μ-loop
 mul-records c = omega arith
@@ -54,12 +61,13 @@ loop-again c =
     let (inside, few, places, m) = s .loop .inv in
     (omega arith, few, places, one-more _ _ (s .loop .records) (s .loop .index) (c .later .result) m (omega arith) (c .later .ensures))
 
-returns : tie.Need-returns Inv-loop μ-loop
-returns c =
+returns-2 : tie.Need-returns-2 Inv-loop μ-loop
+returns-2 c =
     let s = c .before in
+    let d = s .before .before in
     let (inside, few, places, m) = s .loop .inv in
-    let done : s .loop .index ≡ s .before .decode .result .count = omega arith in
-    all-moved _ _ (s .before .decode .result) (s .loop .records) (s .before .decode .ensures) few (rw done at m)
+    let done : s .loop .index ≡ d .decode .result .count = omega arith in
+    all-moved _ _ (d .decode .result) (s .loop .records) (d .decode .ensures) few (rw done at m)
 
 pub records-spec : {M : Type 1} → statement M
 records-spec =
@@ -68,6 +76,7 @@ records-spec =
     Inv-loop
     μ-loop
     decode-requires
+    returns
     loop-holds
     mul-later
     element-copy-out-later
@@ -77,4 +86,4 @@ records-spec =
     add-index
     loop-less
     loop-again
-    returns)
+    returns-2)
