@@ -56,7 +56,8 @@ pub extern "C" fn pacer_without_twins(log: &[u8], buffer: &mut [u8]) -> CLogAnsw
     answers::of_log(answer)
 }
 
-// Answers a query about a log and writes its rows into a slot. The rule is 52 for a row limit and 45 for a share.
+// Answers a query about a log and writes its rows into a slot. The rule is 52 for a row limit and 45 for a share, and the width that of a
+// memory, 1 for none.
 #[no_mangle]
 pub extern "C" fn pacer_query(
     kind: u8,
@@ -108,7 +109,7 @@ pub extern "C" fn pacer_query_scenes(
     answers::of_query(answer)
 }
 
-// The segments of a log, in the first places of a list of 255 or more.
+// The segments of a log with a memory of so many frames, in the first places of a list of 255 or more.
 #[no_mangle]
 pub extern "C" fn pacer_segments(
     log: &[u8],
@@ -159,8 +160,8 @@ pub extern "C" fn pacer_lookup(slot: &[u8], group: u8, frame: u16) -> CLookupAns
     answers::of_lookup(answer)
 }
 
-// Whether a slot agrees with its log: its rows cover just the covered frames, none of kind 3 is below a covered value, and its error is their
-// squared error.
+// Whether a slot agrees with its log, with a memory of so many frames: its rows cover just the covered frames, none of kind 3 is below a
+// covered value, and its error is their squared error.
 #[no_mangle]
 pub extern "C" fn pacer_check(log: &[u8], width: u16, slot: &[u8]) -> CAnswer
     ensures says { λ r. ⌜ r ≡ askedFields (checkOutcome width (now (log .entry)) (now (slot .entry))) ⌝ }

@@ -1,4 +1,4 @@
-// A slot against its log: question 1, the log's, the slot's as one by a bound, and then whether its rows cover just the covered frames (22),
+// A slot against its log: questions 1 and 25, the log's, the slot's as one by a bound, and then whether its rows cover just the covered frames (22),
 // no row of kind 3 is below a covered value (23), and the error is the rows' squared error (24).
 use common::eight;
 use common::is_width;
@@ -57,7 +57,7 @@ fn ask_found(kind: u8, error: u64, found: Compared) -> Asked
     Asked::Passed
 }
 
-// Questions 22 to 24, of a log and a slot that have passed theirs.
+// Questions 22 to 24, of a log and a slot that have passed theirs, with a memory of so many frames.
 fn ask_against(log: &[u8], width: u16, slot: &[u8]) -> Asked
     requires { ⌜ AllPass (logQuestions (now log)) ⌝ }
     requires { ⌜ 1 ≤ width ⌝ }
@@ -92,7 +92,7 @@ fn then(first: Asked, second: Asked) -> Asked
     }
 }
 
-// Asks whether a slot agrees with its log.
+// Asks whether a slot agrees with its log, by the values of a memory of so many frames.
 pub fn check(log: &[u8], width: u16, slot: &[u8]) -> Asked
     ensures says { λ r. ⌜ askedCase r ≡ checkOutcome width (now (log .entry)) (now (slot .entry)) ⌝ }
     ensures promise { λ r. ⌜ CheckPromise width (now (log .entry)) (now (slot .entry)) (askedCase r) ⌝ }

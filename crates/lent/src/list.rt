@@ -30,7 +30,8 @@ fn fill(segments: Segments, list: &mut [Segment])
     }
 }
 
-// The segments of a log, in the first places of a list of 255 or more; any order of the log's records gives the same.
+// The segments of a log with a memory of so many frames, in the first places of a list of 255 or more; any order of the log's records
+// gives the same.
 pub fn segments(log: &[u8], kind: u8, width: u16, list: &mut [Segment]) -> SegmentsAnswer
     ensures { λ r. ⌜ (segmentsCase r ≡ segmentsOutcome kind width (now (log .entry)) (length (now (list .entry)))) × (now (list .exit) ≡ filledList kind width (now (log .entry)) (now (list .entry))) × SegmentsPromise kind width (now (log .entry)) (now (list .entry)) (segmentsCase r) (now (list .exit)) ⌝ }
 {

@@ -151,7 +151,7 @@ fn store(prepared: Prepared, slot: &mut [u8]) -> QueryAnswer
     answer
 }
 
-// Answers a query whose bound is a letter and a number: 52 and a row limit, or 45 and a share.
+// Answers a query whose bound is a letter and a number: 52 and a row limit, or 45 and a share. The width is that of its memory.
 pub fn query_by_letter(
     kind: u8,
     letter: u8,

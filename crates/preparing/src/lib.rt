@@ -56,7 +56,7 @@ pub fn is_written(answer: QueryAnswer) -> bool
     }
 }
 
-// Questions 1 and 2, and behind them what was said of a question of the query's rule.
+// Questions 1 and 2, and behind them what was said of the questions of the query's rule.
 fn ask_query(kind: u8, rule: Asked, room: usize) -> Asked
     ensures { λ r. ⌜ ((questions : List Question) → askedCase rule ≡ outcome questions tt → askedCase r ≡ outcome (earlyQuestions kind questions room) tt) ⌝ }
 {

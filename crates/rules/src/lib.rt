@@ -1,5 +1,5 @@
 // A query by a rule: it is put together, with a bound, every so many frames from a start frame on, or by scenes, and its rule is asked
-// its own question. A bound is asked 3, whether or not it came as a rule.
+// its own question. A bound is asked 3, whether or not it came as a rule, and with it the width 25, which windows do not read.
 use common::is_width;
 use common::no;
 use model::Asked;
