@@ -1,14 +1,11 @@
 -- Arrays of records whose last frames are moved one after the other: once all are, they hold the log's records made longer, and so
 -- have at width 1 what these have at the width. Assumes nothing.
-use Prim.Native.Nat.{ℕ, suc, _+_, _-_, _≤_, _<_, min}
+use Prim.Native.Nat.{ℕ, _+_, _-_, _≤_, _<_, min}
 use mathlib.Core.List.{List, map}
 use mathlib.Core.Path.{_≡_, refl, sym, ap, _∙_}
-use native.Mathlib.Nat.{zero-add}
 use native.Mathlib.Omega.{arith}
 use lib.Dec.{eqb}
 use lib.ListN.{length, getD, set, length-set, length-append, length-map, length-replicate}
-use lib.Seq.{getD-set-same, getD-set-other}
-use Rattle.model.specs.Common.{listFrom}
 use Rattle.model.specs.Spans.{Span, groupCount, frameCount}
 use Rattle.model.specs.Log.{recordCount, records, value}
 use Rattle.model.specs.Segments.{segmentsOf, segments}

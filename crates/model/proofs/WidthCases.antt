@@ -10,7 +10,7 @@ use Rattle.model.specs.Log.{recordLength, recordCount, meeting, sum, agg
 use Rattle.model.specs.Split.{mostRows}
 use Rattle.model.specs.Windows.{boundIn}
 use Rattle.model.specs.Slot.{slotLength}
-use Rattle.model.specs.Questions.{Question, Outcome, refused, accepted, ask, outcome, each, askRoom, kindKnown, boundKnown, mostRecords, logQuestions, widthKnown, askWidth, orderQuestions, queryQuestions, queryBy, ruleQuestion, widthQuestions, ruledOrder, ruledQuestions, mostSegments, segmentsQuestions}
+use Rattle.model.specs.Questions.{Question, Outcome, refused, ask, outcome, askRoom, kindKnown, boundKnown, mostRecords, logQuestions, widthKnown, askWidth, orderQuestions, queryQuestions, queryBy, ruleQuestion, widthQuestions, ruledOrder, ruledQuestions, mostSegments, segmentsQuestions}
 use Rattle.model.specs.Calls.{ruleOf, boundedQuery, beatQuery, boundOf, letterQuestions, byLetterQuestions}
 use Rattle.model.specs.Check.{checkQuestions}
 use Rattle.model.specs.Demands.{withWidth}

@@ -1,10 +1,9 @@
 -- A memory: what is remembered of a record w − 1 frames after its last one is what the record would hold if its last frame were w − 1
 -- later, at most 65,535. So the values at a width are the values at width 1 of records made longer, and what holds of every list of
 -- records at width 1 carries over. Assumes nothing.
-use Prim.Native.Nat.{ℕ, suc, _+_, _-_, _≤_, _<_, min}
-use mathlib.Core.Bool.{Bool, true, false, _&&_, cond}
+use Prim.Native.Nat.{ℕ, _+_, _-_, _≤_, _<_, min}
+use mathlib.Core.Bool.{true, _&&_}
 use mathlib.Core.List.{List, [], _∷_, map}
-use mathlib.Core.Option.{Option, none}
 use mathlib.Core.Path.{_≡_, refl, sym, ap, _∙_}
 use native.Mathlib.Nat.{sub-zero}
 use native.Mathlib.Omega.{arith}

@@ -7,23 +7,22 @@ use mathlib.Core.Logic.{⊎-elim}
 use mathlib.Core.Option.{Option, none, some}
 use mathlib.Core.Path.{_≡_, refl, sym, ap, _∙_, subst}
 use native.Mathlib.Omega.{arith}
-use lib.ListN.{length, replicate}
-use Rattle.model.specs.Common.{sumOf, listFrom, every, numberAt, bytesOf}
+use lib.ListN.{replicate}
+use Rattle.model.specs.Common.{sumOf, listFrom, numberAt, bytesOf}
 use Rattle.model.specs.Spans.{Span, groupCount, frameCount, spanLength, meets, holds}
 use Rattle.model.specs.Log.{recordLength, recordAt, recordCount, recordBytes, records, meeting, sum, aggregate, aggregated, value}
 use Rattle.model.specs.Windows.{boundIn}
 use Rattle.model.specs.Slot.{slotLength, byBound, slotBytes}
-use Rattle.model.specs.Questions.{Outcome, refused, accepted, ask, askRoom, outcome, widthKnown, queryBy, each, marked, groupKnown, spanQuestions, recordQuestions, mostRecords, fileQuestions}
+use Rattle.model.specs.Questions.{refused, accepted, ask, outcome, widthKnown, queryBy, each, marked, groupKnown, spanQuestions, recordQuestions, mostRecords, fileQuestions}
 use Rattle.model.specs.Calls.{Counts, logSegments, ruledOutcome, beatQuery}
 use Rattle.model.specs.Fitting.{hits, due, FitsFor, whole}
 use Rattle.model.specs.NoMemory.{plainValue}
-use Rattle.model.specs.Demands.{AllPass, Bytes, Segmentation, Reads, Agrees, Remembered, withWidth, CheckPromise, QueryPromise}
+use Rattle.model.specs.Demands.{AllPass, Bytes, Segmentation, Remembered, withWidth, CheckPromise, QueryPromise}
 use Rattle.model.specs.declared.Bound.the-variants.{Rows}
-use Rattle.model.proofs.Cases.{span, log-G, segments-G, memory-G, rows-G, bytes, query, worked-cases}
+use Rattle.model.proofs.Cases.{span, log-G, segments-G, rows-G, bytes, worked-cases}
 use Rattle.model.proofs.WindowCases.{windows-worked}
 use Rattle.theory.proofs.Tests.{none≢some, true≢false}
 use Rattle.theory.proofs.Refusals.{accepted≢refused, outcome-accepted}
-use Rattle.theory.proofs.RefutedCalls.{refused-number}
 use Rattle.theory.proofs.Refutations.{decoded, readings, one-reading}
 use Rattle.theory.proofs.RefutedReductions.{bytesOnly, bytes-only, logged-G}
 use Rattle.theory.proofs.Remembered.{memory}

@@ -1,15 +1,14 @@
 -- What a memory is in the paper's words: which records a frame remembers, when it is covered, that width 1 gives what the tool gave
 -- before, and that a query by windows reads no width. Assumes nothing.
-use Prim.Native.Nat.{ℕ, suc, _+_, _-_, _≤_, _<_, max}
-use mathlib.Core.Bool.{Bool, true, false, _&&_, cond}
-use mathlib.Core.List.{List, [], _∷_, _++_, map, List·Memᴰ}
-use mathlib.Core.Logic.{_↔_}
+use Prim.Native.Nat.{ℕ, _+_, _-_, _≤_, _<_}
+use mathlib.Core.Bool.{true}
+use mathlib.Core.List.{List, List·Memᴰ}
 use mathlib.Core.Option.{Option, none, some}
-use mathlib.Core.Path.{_≡_, refl, sym, ap, _∙_}
+use mathlib.Core.Path.{_≡_, refl, ap}
 use native.Mathlib.Omega.{arith}
-use lib.Dec.{ltb, leb, eqb}
+use lib.Dec.{eqb}
 use lib.ListN.{length}
-use borrow.Author.Tests.{eqb-true, eq-eqb, leb-true, le-leb, lt-ltb, ltb-true, le-ltb}
+use borrow.Author.Tests.{eqb-true, eq-eqb, leb-true, le-leb, lt-ltb}
 use Rattle.model.specs.Spans.{Span, groupCount, frameCount, meets}
 use Rattle.model.specs.Log.{records, value}
 use Rattle.model.specs.Segments.{segmentsOf, segments}
@@ -23,7 +22,7 @@ use Rattle.model.specs.Demands.{AllPass, Remembered, withWidth, Memory}
 use Rattle.model.specs.declared.Bound.{Bound}
 use Rattle.model.specs.declared.RuledQuery.{RuledQuery}
 use Rattle.model.specs.declared.Segment.{Segment}
-use Rattle.theory.proofs.Tests.{cases, and-true, true-and}
+use Rattle.theory.proofs.Tests.{and-true, true-and}
 use Rattle.theory.proofs.Memory.{value-one}
 use Rattle.theory.proofs.Bounds.{sound-records, frame-value}
 use Rattle.theory.proofs.Windows.{meeting-some, meeting-from}

@@ -1,16 +1,11 @@
 -- `memory::records` meets its contract. The loop's invariant: the last frames of the first records are moved. Assumes nothing.
-use borrow.Author.Needs.{needs}
-use Prim.Native.Nat.{ℕ, _≤_, _<_, _-_}
-use mathlib.Core.Path.{_≡_, refl, sym, ap, _∙_}
+use Prim.Native.Nat.{_≤_, _-_}
+use mathlib.Core.Path.{_≡_}
 use native.Mathlib.Omega.{arith}
-use lib.ListN.{length, getD}
+use lib.ListN.{length}
 use Rattle.memory.proofs.Moving.{Moved, none-moved, one-more, of-log, all-moved, none-to-move}
 use Rattle.memory.proofs.records.Statement.{statement}
 use Rattle.memory.proofs.records.Tie as tie
-use Rattle.memory.proofs.records.Reads as reads
-use Rattle.memory.proofs.records.Lts as lts
-use Rattle.log.proofs.decode.Reads as decode-reads
-use Rattle.memory.proofs.later.Reads as later-reads
 
 abbrev Inv-loop : tie.InvT-loop
 Inv-loop log width records₀ count index₀ records index =
