@@ -7,7 +7,7 @@ use mathlib.Core.Path.{_≡_}
 use Rattle.model.specs.Spans.{Span}
 use Rattle.model.specs.Questions.{Outcome, refused, accepted}
 use Rattle.model.specs.Calls.{Counts, Header}
-use Rattle.model.specs.Demands.{FilePromise, SegmentsPromise, RuledPromise, CheckPromise}
+use Rattle.model.specs.Demands.{FilePromise, SegmentsPromise, RuledPromise, CheckPromise, LookupsPromise}
 use Rattle.model.specs.declared.RuledQuery.{RuledQuery}
 use Rattle.model.specs.declared.Segment.{Segment}
 use Rattle.capi.specs.declared.answers.CAnswer.{CAnswer}
@@ -30,6 +30,12 @@ askedFields (refused number index) = record { question = number; index = index }
 abbrev pub CheckFields : ℕ → List ℕ → List ℕ → CAnswer → Type 0
 CheckFields width log slot answer =
     (says : Outcome (Unit {0})) × (answer ≡ askedFields says) × CheckPromise width log slot says
+
+-- these fields are those of a call that keeps the promise of many lookups
+abbrev pub LookupsFields : List ℕ → List ℕ → List ℕ → List ℕ → List ℕ → CAnswer → List ℕ → List ℕ → Type 0
+LookupsFields slot groups frames values covered answer valuesAfter coveredAfter =
+    (says : Outcome (Unit {0})) × (answer ≡ askedFields says)
+    × LookupsPromise slot groups frames values covered says valuesAfter coveredAfter
 
 unfoldable pub logFields : Outcome ℕ → CLogAnswer
 logFields (accepted n) = record { question = 0; index = 0; length = n }

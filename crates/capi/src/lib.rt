@@ -20,8 +20,9 @@ ghost use Rattle.model.specs.Demands.{LetterPromise};
 ghost use Rattle.model.specs.Calls.{Counts, writeOutcome, writtenBuffer, withoutTwinsOutcome, withoutTwinsBuffer, letterOutcome, letterSlot, segmentsOutcome, filledList};
 ghost use Rattle.model.specs.Calls.{ruledOutcome, ruledSlot, beatQuery, sceneQuery};
 ghost use Rattle.model.specs.Calls.{readOutcome, readListOutcome, readList, stepOutcome, stepNext, lookupOutcome};
+ghost use Rattle.model.specs.Lookups.{lookupsOutcome, lookupsValues, lookupsCovered};
 ghost use Rattle.model.specs.Check.{checkOutcome};
-ghost use Rattle.capi.specs.Answers.{spanOf, askedFields, CheckFields, logFields, FileFields, queryFields, RuledFields, segmentsFields, SegmentsFields, readFields, stepFields, lookupFields};
+ghost use Rattle.capi.specs.Answers.{spanOf, askedFields, CheckFields, LookupsFields, logFields, FileFields, queryFields, RuledFields, segmentsFields, SegmentsFields, readFields, stepFields, lookupFields};
 
 // Writes a record to the front of a buffer.
 #[no_mangle]
@@ -158,6 +159,25 @@ pub extern "C" fn pacer_lookup(slot: &[u8], group: u8, frame: u16) -> CLookupAns
 {
     let answer = pacer::lookup(slot, group, frame);
     answers::of_lookup(answer)
+}
+
+// The values of the rows that contain each of many frames of groups, in the first places of one list, and in those of another whether
+// there is such a row: all, or in a refusal none.
+#[no_mangle]
+pub extern "C" fn pacer_lookups(
+    slot: &[u8],
+    groups: &[u8],
+    frames: &[u16],
+    values: &mut [u32],
+    covered: &mut [u8],
+) -> CAnswer
+    ensures says { λ r. ⌜ r ≡ askedFields (lookupsOutcome (now (slot .entry)) (now (groups .entry)) (length (now (frames .entry))) (length (now (values .entry))) (length (now (covered .entry)))) ⌝ }
+    ensures found { λ _. ⌜ now (values .exit) ≡ lookupsValues (now (slot .entry)) (now (groups .entry)) (now (frames .entry)) (now (values .entry)) (now (covered .entry)) ⌝ }
+    ensures flagged { λ _. ⌜ now (covered .exit) ≡ lookupsCovered (now (slot .entry)) (now (groups .entry)) (now (frames .entry)) (now (values .entry)) (now (covered .entry)) ⌝ }
+    ensures promise { λ r. ⌜ LookupsFields (now (slot .entry)) (now (groups .entry)) (now (frames .entry)) (now (values .entry)) (now (covered .entry)) r (now (values .exit)) (now (covered .exit)) ⌝ }
+{
+    let answer = lookups::look_up(slot, groups, frames, values, covered);
+    answers::of_asked(answer)
 }
 
 // Whether a slot agrees with its log, with a memory of so many frames: its rows cover just the covered frames, none of kind 3 is below a

@@ -7,7 +7,7 @@ use mathlib.Core.Logic.{_⊎_, _↔_}
 use mathlib.Core.Option.{Option, none, some}
 use mathlib.Core.Path.{_≡_}
 use lib.IntN.{ℤ}
-use lib.ListN.{length, getD, take}
+use lib.ListN.{length, getD, take, drop}
 use Rattle.model.specs.Common.{sumOf, listFrom, joined}
 use Rattle.model.specs.Spans.{Span, groupCount, frameCount, spanLength, meets, adjacent}
 use Rattle.model.specs.Log.{recordLength, recordAt, recordCount, records, recordPart, withoutTwins, meeting, sum, greatestKind, aggregated, value}
@@ -27,6 +27,7 @@ use Rattle.model.specs.Guarantee.{Choices, LeastOfFewest, BestRows, NoRo
 use Rattle.model.specs.Fitting.{hits, due, AtMost, FitsFor, whole, rowLists}
 use Rattle.model.specs.Check.{checkQuestions, checkOutcome}
 use Rattle.model.specs.NoMemory.{plainValue, plainSegmentsOutcome, plainList, plainOutcome, plainSlot, plainCheck}
+use Rattle.model.specs.Lookups.{mostPairs, lookupsQuestions, lookupsOutcome, valueShown, coveredShown, lookupsValues, lookupsCovered}
 use Rattle.model.specs.declared.Bound.{Bound}
 use Rattle.model.specs.declared.Bound.the-variants as bound
 use Rattle.model.specs.declared.Query.{Query}
@@ -83,6 +84,10 @@ pub record Demand1 : Type 0 where
       → Asks (lookupQuestions slot group) (lookupOutcome slot group frame) slot slot
   pub check : (width : ℕ) (log slot : List ℕ)
       → Asks (checkQuestions width log slot) (checkOutcome width log slot) slot slot
+  pub lookups : (slot groups frames values covered : List ℕ)
+      → Asks {B = List ℕ × List ℕ} (lookupsQuestions slot groups (length frames) (length values) (length covered))
+      (lookupsOutcome slot groups (length frames) (length values) (length covered)) (values, covered)
+      (lookupsValues slot groups frames values covered, lookupsCovered slot groups frames values covered)
 
 -- Demand 2.
 
@@ -458,6 +463,30 @@ pub record Memory : Type 0 where
       → (ruledOutcome (withWidth width q) log (length slot) ≡ ruledOutcome q log (length slot))
       × (ruledSlot (withWidth width q) log slot ≡ ruledSlot q log slot)
 
+-- Many lookups as a set.
+
+-- what the single lookup says of the pair with index i
+abbrev pub singly : List ℕ → List ℕ → List ℕ → ℕ → Outcome (Option ℕ)
+singly slot groups frames i = lookupOutcome slot (getD groups i 0) (getD frames i 0)
+
+-- every pair below index n is answered by the single lookup
+abbrev pub AnsweredTo : ℕ → List ℕ → List ℕ → List ℕ → Type 0
+AnsweredTo n slot groups frames = (i : ℕ) → i < n → (found : Option ℕ) × (singly slot groups frames i ≡ accepted found)
+
+-- no list is shorter than the pairs
+abbrev pub LongEnough : List ℕ → List ℕ → List ℕ → List ℕ → Type 0
+LongEnough groups frames values covered =
+    (length groups ≤ length frames) × (length groups ≤ length values) × (length groups ≤ length covered)
+
+-- what a call of many lookups that answers so leaves in a list, in which a single lookup's answer is written as shown: either every
+-- pair's answer, with later places kept, or the list stays untouched
+pub record AnsweredInto (shown : Option ℕ → ℕ) (slot groups frames list : List ℕ) (says : Outcome (Unit {0})) (after : List ℕ) : Type 0 where
+  pub answered : says ≡ accepted tt → (i : ℕ) → i < length groups
+      → (found : Option ℕ) × (singly slot groups frames i ≡ accepted found) × (getD after i 0 ≡ shown found)
+  pub later : says ≡ accepted tt
+      → (length after ≡ length list) × (drop (length groups) after ≡ drop (length groups) list)
+  pub untouched : (number index : ℕ) → says ≡ refused number index → after ≡ list
+
 -- What a call promises beyond the equations for its answer and its slot.
 
 -- a call for logs on file that answers so and leaves this buffer: where it is accepted, the bytes that it says it wrote hold each
@@ -493,6 +522,23 @@ pub record CheckPromise (width : ℕ) (log slot : List ℕ) (says : Outcome (Uni
   pub exactly : (says ≡ accepted tt) ↔ Agrees width log slot
   pub noBetter : says ≡ accepted tt → (room : ℕ) → slotLength ≤ room → NoBetter width log slot room
   pub anyOrder : (other : List ℕ) → Shuffled log other → says ≡ checkOutcome width other slot
+
+-- a call of many lookups that answers so and leaves these lists. It is accepted exactly if no list is too short, the slot is read, there
+-- are at most 64 pairs and the single lookup answers each. A list that is too short is 1; then what the reader refuses is refused
+-- alike; then more than 64 pairs are 26; then the first pair that the single lookup refuses is 7 with its index.
+pub record LookupsPromise (slot groups frames values covered : List ℕ) (says : Outcome (Unit {0})) (valuesAfter coveredAfter : List ℕ) : Type 0 where
+  pub intoValues : AnsweredInto valueShown slot groups frames values says valuesAfter
+  pub intoCovered : AnsweredInto coveredShown slot groups frames covered says coveredAfter
+  pub exactly : (says ≡ accepted tt)
+      ↔ (LongEnough groups frames values covered × AllPass (slotQuestions slot) × (length groups ≤ mostPairs)
+      × AnsweredTo (length groups) slot groups frames)
+  pub tooShort : (LongEnough groups frames values covered → ⊥) → says ≡ refused 1 0
+  pub asRead : LongEnough groups frames values covered → (number index : ℕ) → readOutcome slot ≡ refused number index
+      → says ≡ refused number index
+  pub tooMany : LongEnough groups frames values covered → AllPass (slotQuestions slot) → mostPairs < length groups → says ≡ refused 26 0
+  pub firstBad : LongEnough groups frames values covered → AllPass (slotQuestions slot) → length groups ≤ mostPairs
+      → (i : ℕ) → (says ≡ refused 7 i)
+      ↔ ((i < length groups) × (singly slot groups frames i ≡ refused 7 0) × AnsweredTo i slot groups frames)
 
 -- the slot of a query by windows is read to the span aggregation of the log, with error 0, and no cut was weighed
 pub record SpanSlot (q : RuledQuery) (log slot : List ℕ) (counts : Counts) : Type 0 where

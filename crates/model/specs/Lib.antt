@@ -17,4 +17,5 @@ pub mod Guarantee
 pub mod Fitting
 pub mod Check
 pub mod NoMemory
+pub mod Lookups
 pub mod Demands

@@ -45,6 +45,9 @@ pub const BY_WINDOWS: u8 = 0x53;
 // The most scenes of a query.
 pub const MOST_SCENES: usize = 16;
 
+// The most pairs of group and frame that are looked up as a set.
+pub const MOST_PAIRS: usize = 64;
+
 // A log record: the load of a group over the frames first to last, both included, in thousandths of a frame's time.
 pub struct Record {
     pub group: u8,

@@ -16,6 +16,7 @@ pub mod Choice
 pub mod Merging
 pub mod Converse
 pub mod Lists
+pub mod Copying
 pub mod Every
 pub mod Asking
 pub mod Exchange
@@ -35,6 +36,7 @@ pub mod Check
 pub mod Halves
 pub mod Empty
 pub mod Remembered
+pub mod Lookups
 pub mod Demands
 pub mod Conserved
 pub mod Pages

@@ -6,7 +6,7 @@ use mathlib.Core.List.{List, [], _∷_, _++_, append-nil, List·Memᴰ, List·Me
 use mathlib.Core.List.{List·Memᴰ·not-nil, List·Memᴰ·cases-cons, List·Memᴰ·append-cases, Memᴰ·append-left, Memᴰ·append-right}
 use mathlib.Core.Logic.{_⊎_, inl, inr, _↔_}
 use mathlib.Core.Option.{Option, none, some}
-use mathlib.Core.Path.{_≡_, refl, sym, ap, subst, _∙_}
+use mathlib.Core.Path.{_≡_, refl, sym, ap, ap₂, subst, _∙_}
 use native.Mathlib.Omega.{arith}
 use lib.Dec.{eqb}
 use borrow.Author.Tests.{le-leb, leb-true, eqb-true, eqb-false}
@@ -17,6 +17,7 @@ use Rattle.model.specs.Questions.{ruledQuestions, orderQuestions, writeQuestion
 use Rattle.model.specs.Calls.{Counts, writeOutcome, writtenBuffer, withoutTwinsOutcome, withoutTwinsBuffer, segmentsOutcome, filledList, queryOutcome, querySlot, answerOf, countsOf, readOutcome, readListQuestions, readListOutcome, readList, stepOutcome, stepNext, lookupOutcome}
 use Rattle.model.specs.Calls.{ruledOutcome, ruledSlot, boundOf, byLetterQuestions, letterOutcome, letterSlot}
 use Rattle.model.specs.Check.{checkOutcome}
+use Rattle.model.specs.Lookups.{lookupsQuestions, lookupsOutcome, lookupsList, lookupsValues, lookupsCovered}
 use Rattle.model.specs.Demands.{AllPass, FirstNo, Asks, Demand1}
 use Rattle.model.specs.declared.Bound.{Bound}
 use Rattle.model.specs.declared.Query.{Query}
@@ -239,7 +240,7 @@ letter-asks kind letter x width log slot = by (boundOf letter x) refl
 
 -- the first demand
 pub demand1 : Demand1
-unfolding writeOutcome writtenBuffer withoutTwinsOutcome withoutTwinsBuffer segmentsOutcome filledList queryOutcome querySlot ruledOutcome ruledSlot readOutcome readListOutcome readList stepOutcome stepNext lookupOutcome checkOutcome
+unfolding writeOutcome writtenBuffer withoutTwinsOutcome withoutTwinsBuffer segmentsOutcome filledList queryOutcome querySlot ruledOutcome ruledSlot readOutcome readListOutcome readList stepOutcome stepNext lookupOutcome checkOutcome lookupsOutcome lookupsList lookupsValues lookupsCovered
 demand1 =
     record {
       write = λ r buffer. asks _ _ _ _ (λ n i. refused-lent (writeQuestions r (length buffer)) _ n i _ _);
@@ -253,6 +254,9 @@ demand1 =
       step = λ slot number. asks _ _ _ _ (λ n i. refused-lent (slotQuestions slot) _ n i _ _);
       lookup = λ slot group frame. asks _ _ _ _ (λ n i e. refl);
       check = λ width log slot. asks _ _ _ _ (λ n i e. refl);
+      lookups = λ slot groups frames values covered.
+          let qs = lookupsQuestions slot groups (length frames) (length values) (length covered) in
+          asks qs tt _ _ (λ n i e. ap₂ (λ v c. (v, c)) (refused-lent qs tt n i _ values e) (refused-lent qs tt n i _ covered e));
     }
 
 module _ (q : Query) (log : List ℕ) (room : ℕ) where

@@ -53,7 +53,7 @@ use Rattle.model.proofs.Segments as N
 use Rattle.model.proofs.Segments.Laws as N′
 use Rattle.lent.proofs.Counting.{Turn, counted}
 use Rattle.lent.proofs.Element.{Integers, integer-fits, integer}
-use Rattle.lent.proofs.Copying.{copied, copied-none, copied-length, copied-more, copied-map}
+use Rattle.theory.proofs.Copying.{copied, copied-none, copied-length, copied-more, copied-map}
 use Rattle.lent.proofs.list.fill.Key.{name as #lent·list·fill}
 use Rattle.lent.proofs.list.fill as fill
 use Rattle.lent.proofs.list.fill.Statement as stated

@@ -53,7 +53,7 @@ use Rattle.lent.proofs.rows.Rows as N
 use Rattle.lent.proofs.rows.Rows.Laws as N′
 use Rattle.lent.proofs.Counting.{Turn, counted}
 use Rattle.lent.proofs.Element.{Structs, struct-is, structure}
-use Rattle.lent.proofs.Copying.{copied, copied-none, copied-length, copied-more, copied-take}
+use Rattle.theory.proofs.Copying.{copied, copied-none, copied-length, copied-more, copied-take}
 use Rattle.lent.proofs.rows.fill.Key.{name as #lent·rows·fill}
 use Rattle.lent.proofs.rows.fill as fill
 use Rattle.lent.proofs.rows.fill.Statement as stated

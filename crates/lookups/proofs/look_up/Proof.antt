@@ -1,0 +1,64 @@
+-- `lookups::look_up` meets its contract: every question, then both lists, or neither. Assumes nothing.
+use borrow.Author.Needs.{needs}
+use mathlib.Core.Path.{_≡_, sym, _∙_}
+use borrow.Author.Tests.{not-true, not-false}
+use lib.ListN.{length}
+use Rattle.model.specs.Questions.{accepted, slotQuestions}
+use Rattle.model.specs.Calls.{askedCase}
+use Rattle.theory.proofs.Tests.{true≢false}
+use Rattle.theory.proofs.Refusals.{all-outcome}
+use Rattle.theory.proofs.Lookups.{passed}
+use Rattle.slot.proofs.Answers.{slot-sized}
+use Rattle.lookups.proofs.Left.{refused-leaves, passed-leaves}
+use Rattle.lookups.proofs.look_up.Statement.{statement}
+use Rattle.lookups.proofs.look_up.Tie as tie
+
+ask-requires : tie.Need-ask-requires
+ask-requires c κs = search needs
+
+is-passed-requires : tie.Need-is-passed-requires
+is-passed-requires c κs = search needs
+
+returns : tie.Need-returns
+returns c =
+    let a = c .before .before .before .before .before .before .before .before .args in
+    let asked = c .before .before .ask .ensures in
+    refused-leaves (a .slot .now) (a .groups .now) (a .frames .now) (a .values .now) (a .covered .now) _ asked
+    (λ e. true≢false (sym (c .before .is-passed .ensures .1 e) ∙ not-true _ (c .if1 .taken)))
+
+-- where it is passed, every question was
+accepts : (c : tie.Else1) → askedCase (c .before .before .ask .result) ≡ accepted tt
+accepts c = c .before .is-passed .ensures .0 (not-false _ (c .if1 .left))
+
+answer-requires : tie.Need-answer-requires
+answer-requires c κs =
+    let e = c .before .before in
+    let a = c .before .before .before .before .before .before .before .before .before .before .args in
+    let (long, read, few, known) = passed (a .slot .now) (a .groups .now) (length (a .frames .now)) (length (a .values .now)) (length (a .covered .now)) (sym (e .before .before .ask .ensures) ∙ accepts e) in
+    (slot-sized (a .slot .now) (all-outcome (slotQuestions (a .slot .now)) tt read), long)
+
+same-length : tie.Need-same-length
+same-length c = search needs
+
+same-length-2 : tie.Need-same-length-2
+same-length-2 c = search needs
+
+returns-2 : tie.Need-returns-2
+returns-2 c =
+    let told = c .before .before .before .before in
+    let e = c .before .before .before .before .before .before .before in
+    let a = c .before .before .before .before .before .before .before .before .before .before .before .before .before .before .before .args in
+    let l = passed-leaves (a .slot .now) (a .groups .now) (a .frames .now) (a .values .now) (a .covered .now) _ (e .before .before .ask .ensures) (accepts e) in
+    rw (told .answer .ensures .0, told .answer .ensures .1) l
+
+pub look-up-spec : {M : Type 1} → statement M
+look-up-spec =
+    tie.close
+    (tie.spec
+    ask-requires
+    is-passed-requires
+    returns
+    answer-requires
+    same-length
+    same-length-2
+    returns-2)
