@@ -1,23 +1,23 @@
 // Many lookups as a set: pairs of group and frame, given as two lists, are answered into two lent lists, one of values and one of
 // covered or not. Every question is asked before a place is written, so that a refusal leaves both lists as they were. The slot is
-// asked once, and each pair is then looked up as a single one is.
+// asked once; its rows are in order once it has passed, and each pair's row is then found by halving.
 use common::no;
 use common::wide;
 use model::Asked;
 use model::MOST_GROUP;
 use model::MOST_PAIRS;
-use reader::seek;
+use slot::place_of;
 ghost use mathlib.Core.Path.{_≡_};
 ghost use mathlib.Core.Bool.{true};
 ghost use mathlib.Core.Logic.{_↔_};
 ghost use Prim.Native.Nat.{_≤_};
 ghost use lib.ListN.{length};
-ghost use Rattle.model.specs.Common.{listFrom};
-ghost use Rattle.model.specs.Slot.{slotCount, slotRow, valueIn};
-ghost use Rattle.model.specs.Questions.{outcome, accepted, each};
+ghost use Rattle.model.specs.Slot.{slotRows, valueIn};
+ghost use Rattle.model.specs.Questions.{outcome, accepted, each, slotQuestions};
 ghost use Rattle.model.specs.Calls.{askedCase};
 ghost use Rattle.model.specs.Lookups.{pairQuestions, lookupsQuestions, lookupsOutcome, valueShown, coveredShown, pairsShown, lookupsValues, lookupsCovered};
-ghost use Rattle.model.specs.Demands.{LookupsPromise};
+ghost use Rattle.model.specs.Demands.{AllPass, LookupsPromise};
+ghost use Rattle.lookups.specs.Ends.{EndInOrder, Reached};
 
 // Question 7 of one pair after the other.
 fn ask_groups(groups: &[u8]) -> Asked
@@ -56,36 +56,59 @@ struct Shown {
     covered: u8,
 }
 
-// What is written for a group and a frame, from the first `count` rows of a slot.
-fn look(slot: &[u8], count: usize, group: u8, frame: u16) -> Shown
+// The number of the first of a slot's first `count` rows that does not end before a place, in the order of all groups' frames, and
+// `count` where all do. The rows end in that order, so that a row in the middle tells which half to go on with. Both halves are taken to
+// be equally long, and so the turns do not depend on what is found.
+fn reach(slot: &[u8], count: usize, place: u32) -> usize
     requires { ⌜ (768 ≤ length (now slot)) × (count ≤ 64) ⌝ }
-    ensures { λ r. ⌜ (r .value ≡ valueShown (valueIn (listFrom 0 count (slotRow (now (slot .entry)))) group frame)) × (r .covered ≡ coveredShown (valueIn (listFrom 0 count (slotRow (now (slot .entry)))) group frame)) ⌝ }
+    requires { ⌜ EndInOrder (now slot) count ⌝ }
+    ensures { λ r. ⌜ Reached (now (slot .entry)) count place r ⌝ }
 {
-    let at = seek(slot, count, group, frame);
+    let mut at: usize = 0;
+    let mut size = count;
+    while size > 0 {
+        let half = size - size / 2;
+        let row = slot::row(slot, at + half - 1);
+        if place_of(row.group, row.last) < place {
+            at += half;
+        }
+        size = size / 2;
+    }
+    at
+}
+
+// What is written for a group and a frame, from the rows of a slot that has passed its questions.
+fn look(slot: &[u8], group: u8, frame: u16) -> Shown
+    requires { ⌜ AllPass (slotQuestions (now slot)) ⌝ }
+    ensures { λ r. ⌜ (r .value ≡ valueShown (valueIn (slotRows (now (slot .entry))) group frame)) × (r .covered ≡ coveredShown (valueIn (slotRows (now (slot .entry))) group frame)) ⌝ }
+{
+    let count = wide(slot[3]);
+    let place = place_of(group, frame);
+    let at = reach(slot, count, place);
     if at < count {
         let row = slot::row(slot, at);
-        Shown {
-            value: row.value,
-            covered: 1,
+        if place_of(row.group, row.first) <= place {
+            return Shown {
+                value: row.value,
+                covered: 1,
+            };
         }
-    } else {
-        Shown {
-            value: 0,
-            covered: 0,
-        }
+    }
+    Shown {
+        value: 0,
+        covered: 0,
     }
 }
 
 // Writes what the slot's rows say of each pair to the first places of both lists.
 fn answer(slot: &[u8], groups: &[u8], frames: &[u16], values: &mut [u32], covered: &mut [u8])
-    requires { ⌜ (768 ≤ length (now slot)) × (slotCount (now slot) ≤ 64) ⌝ }
+    requires { ⌜ AllPass (slotQuestions (now slot)) ⌝ }
     requires { ⌜ (length (now groups) ≤ length (now frames)) × (length (now groups) ≤ length (now values)) × (length (now groups) ≤ length (now covered)) ⌝ }
     ensures { λ _. ⌜ now (values .exit) ≡ pairsShown valueShown (now (slot .entry)) (now (groups .entry)) (now (frames .entry)) (now (values .entry)) ⌝ }
     ensures { λ _. ⌜ now (covered .exit) ≡ pairsShown coveredShown (now (slot .entry)) (now (groups .entry)) (now (frames .entry)) (now (covered .entry)) ⌝ }
 {
-    let count = wide(slot[3]);
     for i in 0..groups.len() {
-        let shown = look(slot, count, groups[i], frames[i]);
+        let shown = look(slot, groups[i], frames[i]);
         values[i] = shown.value;
         covered[i] = shown.covered;
     }

@@ -133,7 +133,7 @@ pub fn lookup(slot: &[u8], group: u8, frame: u16) -> LookupAnswer
 }
 
 // The number of the first row, of the first `count` of a slot, that is of a group and contains a frame; `count` where none does.
-pub fn seek(slot: &[u8], count: usize, group: u8, frame: u16) -> usize
+fn seek(slot: &[u8], count: usize, group: u8, frame: u16) -> usize
     requires { ⌜ (768 ≤ length (now slot)) × (count ≤ 64) ⌝ }
     ensures { λ r. ⌜ (r ≤ count) × (valueIn (listFrom 0 count (slotRow (now (slot .entry)))) group frame ≡ cond (ltb r count) (some ((slotRow (now (slot .entry)) r) .value)) none) ⌝ }
 {

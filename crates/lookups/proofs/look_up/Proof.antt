@@ -3,12 +3,10 @@ use borrow.Author.Needs.{needs}
 use mathlib.Core.Path.{_≡_, sym, _∙_}
 use borrow.Author.Tests.{not-true, not-false}
 use lib.ListN.{length}
-use Rattle.model.specs.Questions.{accepted, slotQuestions}
+use Rattle.model.specs.Questions.{accepted}
 use Rattle.model.specs.Calls.{askedCase}
 use Rattle.theory.proofs.Tests.{true≢false}
-use Rattle.theory.proofs.Refusals.{all-outcome}
 use Rattle.theory.proofs.Lookups.{passed}
-use Rattle.slot.proofs.Answers.{slot-sized}
 use Rattle.lookups.proofs.Left.{refused-leaves, passed-leaves}
 use Rattle.lookups.proofs.look_up.Statement.{statement}
 use Rattle.lookups.proofs.look_up.Tie as tie
@@ -35,7 +33,7 @@ answer-requires c κs =
     let e = c .before .before in
     let a = c .before .before .before .before .before .before .before .before .before .before .args in
     let (long, read, few, known) = passed (a .slot .now) (a .groups .now) (length (a .frames .now)) (length (a .values .now)) (length (a .covered .now)) (sym (e .before .before .ask .ensures) ∙ accepts e) in
-    (slot-sized (a .slot .now) (all-outcome (slotQuestions (a .slot .now)) tt read), long)
+    (read, long)
 
 same-length : tie.Need-same-length
 same-length c = search needs
