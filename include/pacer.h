@@ -4,7 +4,8 @@
  * other calls read. By a bound it finds the log's constant segments and merges them; by windows,
  * beats or scenes, it gives each group a row for each window that one of its records meets. Records
  * with the same nine bytes are twins; a log that has some is refused, and pacer_without_twins keeps
- * the first of them. pacer_check holds a slot by a bound, whoever made it, to its log.
+ * the first of them. pacer_lookup gives a group's value at a frame, and pacer_lookups those of many
+ * pairs of group and frame as a set. pacer_check holds a slot by a bound, whoever made it, to its log.
  *
  * A query by a bound, pacer_segments and pacer_check take a width of 1 to 4,096 frames: load with a
  * memory, as heat follows the last seconds of play. A frame's value is then the aggregate over the
@@ -28,11 +29,11 @@
  *
  * Every call asks its questions in the order given at the call. The answer's field `question` is
  * 0 if all got 'yes'. Otherwise it is the number of the first question that got 'no', `index` is
- * the index from 0 of the record or row concerned for questions 6 to 9, 14 to 16 and 21 (0 for the
- * others), and nothing that was lent is changed. The questions are:
+ * the index from 0 of the record, row or pair concerned for questions 6 to 9, 14 to 16 and 21 (0 for
+ * the others), and nothing that was lent is changed. The questions are:
  *
- *    1  Is the lent buffer or list long enough (slot 768, segments 255, rows 64, record 9, and for a
- *       log without its twins as long as the log)?
+ *    1  Is the lent buffer or list long enough (slot 768, segments 255, rows 64, record 9, for a log
+ *       without its twins as long as the log, and for many lookups as long as the pairs)?
  *    2  Is the kind 0 to 4?
  *    3  Is the row limit at most 64, or the share at most 1,000?
  *    4  Is the log's length a multiple of 9?
@@ -58,6 +59,7 @@
  *   23  Is no row of kind 3 below the value of a covered frame in it?
  *   24  Is the header's error the squared error of the rows, summed frame by frame?
  *   25  Is the width 1 to 4,096?
+ *   26  Are there at most 64 pairs?
  *
  * The questions of one record or row come before the next one's, 21 of a record after its 9.
  *
@@ -73,7 +75,7 @@
 #include <stdint.h>
 
 /* The version of the library that this header describes. */
-#define PACER_VERSION "0.16.0"
+#define PACER_VERSION "0.17.0"
 
 #ifdef __cplusplus
 extern "C" {
@@ -85,7 +87,8 @@ enum {
     PACER_SLOT_BYTES = 768,
     PACER_SEGMENT_PLACES = 255,
     PACER_ROW_PLACES = 64,
-    PACER_SCENE_PLACES = 16               /* the most scenes of a query */
+    PACER_SCENE_PLACES = 16,              /* the most scenes of a query */
+    PACER_PAIR_PLACES = 64                /* the most pairs of many lookups */
 };
 
 /* Stack that a call needs at most, in bytes: measured on x86-64 by tests-c/stack.c, which fails if a
@@ -186,6 +189,11 @@ struct pacer_lookup_answer {
     size_t index;
     uint8_t covered;    /* 1: a row of the group contains the frame */
     uint32_t value;     /* that row's value; 0 if there is none */
+};
+
+struct pacer_lookups_answer {
+    uint8_t question;
+    size_t index;
 };
 
 /* A longest stretch of covered frames of one group with equal value; both frames included. Covered
@@ -326,6 +334,26 @@ struct pacer_step_answer pacer_row_at(const uint8_t *slot, size_t length, size_t
  */
 struct pacer_lookup_answer pacer_lookup(const uint8_t *slot, size_t length, uint8_t group,
                                         uint16_t frame);
+
+/* Looks up many pairs of group and frame as a set: all of them are answered, each as pacer_lookup
+ * would, or none is. It is for a pacer that looks up eight groups for one frame and mixes them, which
+ * a refusal in between would leave half set. Pair i is `groups[i]` with `frames[i]`, and there are as
+ * many pairs as groups. Pairs may stand in any order, and the same one more than once.
+ * Asks 1 (768 bytes of slot, and lists of frames, values and flags that are each at least as long as
+ * the pairs are many), 11, 12, 13, then 14 to 16 for row after row, 17, 26, then 7 for pair after pair,
+ * with the pair's index. 1 and the slot's questions are asked with no pairs too.
+ * Accepted: for each pair i, `covered[i]` is 1 and `values[i]` the value of the row of that group that
+ * contains the frame, or both are 0 if there is none. Later places of both lists keep their content,
+ * and later frames are not read.
+ * Refused: both lists are unchanged.
+ * `values` and `covered` must not overlap each other, nor `slot`, `groups` or `frames`. These three are
+ * only read, and may overlap.
+ */
+struct pacer_lookups_answer pacer_lookups(const uint8_t *slot, size_t length,
+                                          const uint8_t *groups, size_t pairs,
+                                          const uint16_t *frames, size_t frame_count,
+                                          uint32_t *values, size_t value_places,
+                                          uint8_t *covered, size_t covered_places);
 
 /* Holds a slot by a bound to its log: whether its rows are rows of this log, and its error theirs. It
  * is for slots that come with their logs, made by whichever tool. `width` is the one that the slot was

@@ -1,6 +1,6 @@
 /* Log G through the C interface: write_record, without_twins, segments, query, query_beats,
- * query_scenes, read, read_rows, row_at, lookup and check; with a memory; and in every order of its
- * records. A width of 1 is no memory, and what the calls without one gave.
+ * query_scenes, read, read_rows, row_at, lookup, lookups and check; with a memory; and in every order of
+ * its records. A width of 1 is no memory, and what the calls without one gave.
  *
  * Every answer is checked against the numbers that the paper prints for log G, or against what its
  * rules give for it by hand, and every byte lent against the paper's layout. Prints one line,
@@ -1396,6 +1396,145 @@ static void test_lookup(const uint8_t *slot, size_t length)
     SAME(pacer_lookup(slot, 767, 8, 0).question, 1);
 }
 
+/* Many lookups: 70 places of each list, which a refusal leaves as they were. */
+enum { PLACES = 70 };
+static uint32_t values[PLACES], values_before[PLACES];
+static uint8_t covered[PLACES], covered_before[PLACES];
+
+/* Fills both lists with numbers that no call writes. */
+static void fill_lists(void)
+{
+    for (size_t i = 0; i < PLACES; i++) {
+        values[i] = values_before[i] = UINT32_MAX - (uint32_t)i;
+        covered[i] = covered_before[i] = (uint8_t)(2 + i);
+    }
+}
+
+/* Compares the answer of lookups and every place of both lists: the first ones with the values of so many
+ * pairs, 0 for those that are uncovered, and the others with what was there. No row of G has the value 0.
+ */
+static void looked_up_at(int line, struct pacer_lookups_answer found, uint8_t question, size_t index,
+                         const uint32_t *expected, size_t pairs)
+{
+    same_at(line, "question of lookups", found.question, question);
+    same_at(line, "index of lookups", found.index, index);
+    for (size_t i = 0; i < PLACES; i++) {
+        same_at(line, "value", values[i], i < pairs ? expected[i] : values_before[i]);
+        same_at(line, "covered", covered[i], i < pairs ? expected[i] > 0 : covered_before[i]);
+    }
+    fill_lists();
+}
+#define LOOKED_UP(found, expected, pairs) looked_up_at(__LINE__, found, 0, 0, expected, pairs)
+#define NOT_LOOKED_UP(found, question, index) looked_up_at(__LINE__, found, question, index, NULL, 0)
+
+/* Many lookups as a set. */
+static void test_lookups(uint8_t *slot, size_t length)
+{
+    static const uint8_t groups[8] = {0, 1, 2, 3, 4, 5, 6, 7};
+    static uint16_t frames[PLACES];
+    static uint8_t many[PLACES];
+
+    SAME(PACER_PAIR_PLACES, 64);
+    fill_lists();
+
+    /* Eight groups for one frame of G's four rows: only groups 0 and 1 have rows, the latter at frame 0. */
+    static const uint32_t group_0[12] = {100, 100, 242, 242, 242, 242, 242, 0, 0, 50, 50, 0};
+    for (uint16_t frame = 0; frame < 12; frame++) {
+        const uint32_t expected[8] = {group_0[frame], frame == 0 ? 7 : 0};
+        for (size_t i = 0; i < 8; i++)
+            frames[i] = frame;
+        LOOKED_UP(pacer_lookups(slot, length, groups, 8, frames, 8, values, 8, covered, 8), expected, 8);
+        LOOKED_UP(pacer_lookups(slot, length, groups, 8, frames, PLACES, values, PLACES, covered, PLACES),
+                  expected, 8);
+    }
+
+    /* Group 0 for the frames 0 to 11, backwards, and a slot by beats: 300, 410 and 50 of group 0. */
+    static const uint32_t backwards[12] = {0, 50, 50, 0, 0, 242, 242, 242, 242, 242, 100, 100};
+    static const uint32_t beats[12] = {50, 50, 50, 50, 410, 410, 410, 410, 300, 300, 300, 300};
+    for (size_t i = 0; i < 12; i++)
+        frames[i] = (uint16_t)(11 - i);
+    LOOKED_UP(pacer_lookups(slot, length, many, 12, frames, 12, values, 13, covered, 12), backwards, 12);
+    LOOKED_UP(pacer_lookups(beats_slot_g, sizeof beats_slot_g, many, 12, frames, 12, values, 12, covered, 14),
+              beats, 12);
+
+    /* No pair, one, 64, and one and six too many. Frames 0 to 11 again and again. */
+    static uint32_t again[PLACES];
+    for (size_t i = 0; i < PLACES; i++) {
+        frames[i] = (uint16_t)(i % 12);
+        again[i] = group_0[i % 12];
+    }
+    LOOKED_UP(pacer_lookups(slot, length, many, 0, frames, 0, values, 0, covered, 0), again, 0);
+    LOOKED_UP(pacer_lookups(slot, length, many, 0, frames, 9, values, 9, covered, 9), again, 0);
+    for (size_t pairs = 1; pairs <= PACER_PAIR_PLACES; pairs++)
+        LOOKED_UP(pacer_lookups(slot, length, many, pairs, frames, pairs, values, pairs, covered, pairs),
+                  again, pairs);
+    NOT_LOOKED_UP(pacer_lookups(slot, length, many, 65, frames, 65, values, 65, covered, 65), 26, 0);
+    NOT_LOOKED_UP(pacer_lookups(slot, length, many, 70, frames, 70, values, 70, covered, 70), 26, 0);
+
+    /* A group that there is not, at each index of 64; a later one is not looked at. */
+    for (size_t index = 0; index < 64; index++) {
+        many[index] = index % 2 ? 8 : 255;
+        NOT_LOOKED_UP(pacer_lookups(slot, length, many, 64, frames, 64, values, 64, covered, 64), 7, index);
+        many[63] = 9;
+        NOT_LOOKED_UP(pacer_lookups(slot, length, many, 64, frames, 70, values, 70, covered, 70), 7, index);
+        many[index] = many[63] = 0;
+    }
+    many[8] = 8;
+    LOOKED_UP(pacer_lookups(slot, length, many, 8, frames, 8, values, 8, covered, 8), again, 8);
+
+    /* A short list, each alone: ahead of all else. 64 places do not do for 65 pairs. */
+    static const size_t counts[] = {1, 8, 9, 64, 65};
+    for (size_t i = 0; i < sizeof counts / sizeof counts[0]; i++) {
+        const size_t n = counts[i];
+        NOT_LOOKED_UP(pacer_lookups(slot, length, many, n, frames, n - 1, values, n, covered, n), 1, 0);
+        NOT_LOOKED_UP(pacer_lookups(slot, length, many, n, frames, n, values, n - 1, covered, n), 1, 0);
+        NOT_LOOKED_UP(pacer_lookups(slot, length, many, n, frames, n, values, n, covered, n - 1), 1, 0);
+        NOT_LOOKED_UP(pacer_lookups(slot, length, many, n, frames, 0, values, 0, covered, 0), 1, 0);
+        NOT_LOOKED_UP(pacer_lookups(slot, 767, many, n, frames, n, values, n, covered, n), 1, 0);
+    }
+    NOT_LOOKED_UP(pacer_lookups(slot, 767, many, 0, frames, 0, values, 0, covered, 0), 1, 0);
+
+    /* A damaged byte at a time: 1, then the slot's questions, then 26 and 7. */
+    static const struct damage cases[] = {
+        {0, 0x51, 11, 0},  {1, PACER_BY_WINDOWS, 17, 0}, {2, 5, 12, 0},  {3, 65, 13, 0},
+        {23, 0x51, 14, 1}, {25, 8, 15, 1},               {26, 1, 16, 1}, {767, 1, 17, 0},
+    };
+    for (size_t i = 0; i < sizeof cases / sizeof cases[0]; i++) {
+        const struct damage *c = &cases[i];
+        uint8_t kept = slot[c->byte];
+        slot[c->byte] = c->content;
+        NOT_LOOKED_UP(pacer_lookups(slot, length, many, 8, frames, 8, values, 8, covered, 8), c->question,
+                      c->index);
+        NOT_LOOKED_UP(pacer_lookups(slot, length, many, 0, frames, 0, values, 0, covered, 0), c->question,
+                      c->index);
+        NOT_LOOKED_UP(pacer_lookups(slot, length, many, 65, frames, 65, values, 65, covered, 65), c->question,
+                      c->index);
+        NOT_LOOKED_UP(pacer_lookups(slot, length, many, 65, frames, 65, values, 64, covered, 65), 1, 0);
+        NOT_LOOKED_UP(pacer_lookups(slot, length, many, 9, frames, 9, values, 9, covered, 9), c->question,
+                      c->index);
+        slot[c->byte] = kept;
+    }
+    NOT_LOOKED_UP(pacer_lookups(slot, length, many, 65, frames, 65, values, 65, covered, 65), 26, 0);
+    NOT_LOOKED_UP(pacer_lookups(slot, length, many, 9, frames, 9, values, 9, covered, 9), 7, 8);
+
+    /* A load of 0 is covered. */
+    static uint8_t idle[PACER_SLOT_BYTES];
+    uint8_t record[9];
+    SAME(pacer_write_record(5, 3, 4, 0, record, 9).question, 0);
+    SAME(pacer_query(PACER_SUM, PACER_ROWS, 1, PACER_ONE_FRAME, record, 9, idle, sizeof idle).question, 0);
+    memset(many, 5, 4);
+    SAME(pacer_lookups(idle, sizeof idle, many, 4, frames + 2, 4, values, 4, covered, 4).question, 0);
+    for (size_t i = 0; i < 4; i++) {
+        SAME(values[i], 0);
+        SAME(covered[i], i == 1 || i == 2);
+    }
+    fill_lists();
+
+    /* The slot's own bytes as groups: kind 0 and four rows. */
+    LOOKED_UP(pacer_lookups(slot, length, slot + 2, 2, frames + 6, 2, values, 2, covered, 2),
+              ((uint32_t[]){242, 0}), 2);
+}
+
 int main(void)
 {
     static uint8_t slot[PACER_SLOT_BYTES + 32];
@@ -1419,6 +1558,7 @@ int main(void)
     test_read_rows(slot, sizeof slot);
     test_row_at(slot, sizeof slot);
     test_lookup(slot, sizeof slot);
+    test_lookups(slot, sizeof slot);
     if (differences == 0)
         printf("c interface: ok\n");
     return differences == 0 ? 0 : 1;

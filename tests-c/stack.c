@@ -63,6 +63,12 @@ static uint8_t slot[PACER_SLOT_BYTES];
 static size_t number;
 static struct pacer_segment segment_list[PACER_SEGMENT_PLACES];
 static struct pacer_row row_list[PACER_ROW_PLACES];
+static uint8_t groups[PACER_PAIR_PLACES + 1];
+static uint16_t frames[PACER_PAIR_PLACES + 1];
+static size_t pairs;
+static uint32_t values[PACER_PAIR_PLACES + 1];
+static uint8_t covered[PACER_PAIR_PLACES + 1];
+static size_t places;
 static uint8_t record[PACER_RECORD_BYTES];
 static uint8_t kept[sizeof log_bytes];
 
@@ -87,6 +93,8 @@ CALL(read, pacer_read(slot, sizeof slot))
 CALL(read_rows, pacer_read_rows(slot, sizeof slot, row_list, PACER_ROW_PLACES))
 CALL(row_at, pacer_row_at(slot, sizeof slot, number))
 CALL(lookup, pacer_lookup(slot, sizeof slot, 0, (uint16_t)number))
+CALL(lookups, pacer_lookups(slot, sizeof slot, groups, pairs, frames, pairs, values, places, covered,
+                            places))
 CALL(check, pacer_check(log_bytes, log_length, width, slot, sizeof slot))
 
 /* A number that looks random. */
@@ -383,6 +391,39 @@ static size_t check_need(void)
     return needed;
 }
 
+/* Slots of no row and of 64, under each header, with 0 to 65 pairs in the first row, in the last and in
+ * none; and refusals by questions 1, 7, 17 and 26.
+ */
+static size_t lookups_need(void)
+{
+    static const size_t counts[] = {0, 1, 2, 7, 8, 9, 63, 64, 65};
+    size_t needed = 0;
+    for (int by_windows = 0; by_windows <= 1; by_windows++) {
+        for (int full = 0; full <= 1; full++) {
+            make_slot(by_windows);
+            if (!full)
+                memset(slot + 3, 0, sizeof slot - 3);
+            for (size_t i = 0; i < sizeof counts / sizeof counts[0]; i++) {
+                pairs = places = counts[i];
+                for (size_t j = 0; j < pairs; j++)
+                    frames[j] = (uint16_t[]){0, 63, 254, 65535}[j % 4];
+                most(&needed, lookups, pairs > PACER_PAIR_PLACES ? 26 : 0);
+                if (pairs == 0)
+                    continue;
+                groups[pairs - 1] = 8;
+                most(&needed, lookups, pairs > PACER_PAIR_PLACES ? 26 : 7);
+                groups[pairs - 1] = 0;
+                places--;
+                most(&needed, lookups, 1);
+            }
+            pairs = places = PACER_PAIR_PLACES;
+            slot[PACER_SLOT_BYTES - 1] = 1;
+            most(&needed, lookups, 17);
+        }
+    }
+    return needed;
+}
+
 int main(void)
 {
     size_t needed;
@@ -427,6 +468,7 @@ int main(void)
         }
         row(names[i], needed, PACER_SLOT_STACK);
     }
+    row("pacer_lookups", lookups_need(), PACER_SLOT_STACK);
     if (failures == 0)
         printf("stack: ok\n");
     return failures != 0;

@@ -1,7 +1,7 @@
 #!/usr/bin/env python3
 """The expected output of the program `profile`, of queries by windows, of the call for logs on file,
-of calls on the same records in two orders, of slots held to their logs and of calls with a memory,
-computed from the paper's words.
+of calls on the same records in two orders, of slots held to their logs, of calls with a memory and of
+many lookups as a set, computed from the paper's words.
 
     expected.py INPUT                    print what `profile` prints for the file INPUT
     expected.py --cases CASES EXPECTED   write the file of cases and the file of expected output
@@ -11,6 +11,7 @@ computed from the paper's words.
                                          records line by line, in the second in another order
     expected.py --check FILE             write the file of logs and slots with what is said of them
     expected.py --memory FILE            write the file of calls with a memory with their answers
+    expected.py --lookups FILE           write the file of many lookups as a set with their answers
 
 An input is the kind (1 byte), 52 for a row limit or 45 for a share (hexadecimal), the bound
 (2 bytes, least byte first) and the log. In the file of cases each case is its length (2 bytes,
@@ -18,8 +19,9 @@ least byte first) and then its bytes; the file of expected output has what `prof
 one case after another.
 
 The program takes no windows, keeps no log, reads no slot and has no memory, so these are for the Rust
-tests; each query by windows, each log on file, each call in two orders, each slot with its log and each
-call with a memory is a line of words, which the first lines of its file explain.
+tests; each query by windows, each log on file, each call in two orders, each slot with its log, each
+call with a memory and each call of many lookups is a line of words, which the first lines of its file
+explain.
 
 Frames, segments, blocks and cuts are worked out one by one with Python's whole numbers and
 fractions, by the shortest way from the words and not the fastest.
@@ -418,9 +420,10 @@ def rows_of(slot):
             for row in elevens]
 
 
-def slot_questions(slot):
-    """Number, index and answer of the questions of a slot by a bound from 11 on, in order."""
-    yield 11, 0, slot[:2] == b"PH"
+def slot_questions(slot, headers=(b"PH",)):
+    """Number, index and answer of the questions of a slot from 11 on, in order; by a bound if no other
+    headers are named."""
+    yield 11, 0, slot[:2] in headers
     yield 12, 0, slot[2] in KINDS
     yield 13, 0, slot[3] <= 64
     rows = rows_of(slot)
@@ -428,7 +431,8 @@ def slot_questions(slot):
         yield 14, index, mark == b"PR"
         yield 15, index, group <= 7 and first <= last and value <= 128000
         yield 16, index, index == 0 or (group, first) > rows[index - 1][1:4:2]
-    yield 17, 0, not any(slot[12 + 11 * len(rows):768])
+    no_error = slot[:2] != b"PS" or not any(slot[4:12])
+    yield 17, 0, not any(slot[12 + 11 * len(rows):768]) and no_error
 
 
 @functools.lru_cache(maxsize=8)
@@ -606,6 +610,67 @@ class MemoryCheck:
 
     def answer_of_before(self):
         return check_answer(self.log, self.slot)
+
+
+# ---- Many lookups as a set -----------------------------------------------------------------
+
+
+# What is in the two lists before a call, place by place: no value of a slot, and neither 1 nor 0.
+def value_before(place):
+    return 2 ** 32 - 1 - place
+
+
+def flag_before(place):
+    return 2 + place % 254
+
+
+@functools.lru_cache(maxsize=8)
+def slot_values(slot):
+    """The value of the row that holds a frame, by group and frame, of a slot that was read."""
+    return row_values(row[1:] for row in rows_of(slot))
+
+
+class Lookups:
+    """Pairs of group and frame that are looked up in a slot. The list of frames and the two lists that
+    are lent have so many places more than there are pairs, or less."""
+
+    def __init__(self, slot, pairs, frames=0, values=0, covered=0):
+        self.slot = slot
+        self.groups = [group for group, _ in pairs]
+        later = [(7 * k + 3) % 65536 for k in range(max(frames, 0))]
+        self.frames = [frame for _, frame in pairs][:len(pairs) + min(frames, 0)] + later
+        self.values = [value_before(place) for place in range(len(pairs) + values)]
+        self.covered = [flag_before(place) for place in range(len(pairs) + covered)]
+
+    def words(self):
+        return (f"{len(self.slot)} {self.slot.rstrip(bytes(1)).hex() or '-'} "
+                f"{bytes(self.groups).hex() or '-'} {numbers_of(self.frames)} "
+                f"{len(self.values)} {len(self.covered)}")
+
+    def questions(self):
+        yield 1, 0, len(self.slot) >= 768
+        for places in (self.frames, self.values, self.covered):
+            yield 1, 0, len(places) >= len(self.groups)
+        yield from slot_questions(self.slot, (b"PH", b"PS"))
+        yield 26, 0, len(self.groups) <= 64
+        for index, group in enumerate(self.groups):
+            yield 7, index, group <= 7
+
+    def answer(self):
+        """'no' with number and index, or every place of both lists."""
+        no = refused(self.questions())
+        if no:
+            return no
+        values, covered = self.values[:], self.covered[:]
+        held = slot_values(self.slot)
+        for index, pair in enumerate(zip(self.groups, self.frames)):
+            values[index], covered[index] = (held[pair], 1) if pair in held else (0, 0)
+        return f"{numbers_of(values)} {bytes(covered).hex() or '-'}"
+
+
+def numbers_of(numbers):
+    """Numbers as one word."""
+    return ",".join(str(number) for number in numbers) or "-"
 
 
 # ---- The cases -----------------------------------------------------------------------------
@@ -1422,9 +1487,9 @@ def all_cases():
 # ---- Slots with their logs -----------------------------------------------------------------
 
 
-def whole_slot(kind, error, rows):
-    """The 768 bytes of a slot by a bound."""
-    return bytes.fromhex(slot_bytes(b"PH", kind, error, rows)).ljust(768, b"\0")
+def whole_slot(kind, error, rows, header=b"PH"):
+    """The 768 bytes of a slot, by a bound if no other header is named."""
+    return bytes.fromhex(slot_bytes(header, kind, error, rows)).ljust(768, b"\0")
 
 
 def with_right_error(log, kind, rows):
@@ -2054,6 +2119,290 @@ def memory_lines():
     return [f"{words}: {answer}\n" for words, answer in lines.items()]
 
 
+# ---- Calls of many lookups -----------------------------------------------------------------
+
+# The rows of log G for four rows of the sum, and by beats of four frames.
+ROWS_G = [(0, 0, 1, 100), (0, 2, 6, 242), (0, 9, 10, 50), (1, 0, 0, 7)]
+BEATS_G = [(0, 0, 3, 300), (0, 4, 7, 410), (0, 8, 11, 50), (1, 0, 3, 7)]
+
+# 64 rows: of one group, and eight of each group at the same frames.
+ONE_GROUP = [(5, 20 * i, 20 * i + 9 + i % 11, 1000 * i) for i in range(64)]
+EIGHT_GROUPS = [(group, 30 * i, 30 * i + 19, 100 * group + i) for group in range(8) for i in range(8)]
+
+# The first frame and the last, all frames, a row of one frame, and the values 0 and 128,000.
+AT_ENDS = [(0, 0, 0, 5), (0, 65535, 65535, 0), (2, 0, 65535, 0), (3, 1, 65534, 128000),
+           (6, 32767, 32768, 127999), (7, 0, 32767, 128000), (7, 32768, 65535, 1)]
+
+ROW_LISTS = [ROWS_G, BEATS_G, ONE_GROUP, EIGHT_GROUPS, AT_ENDS, []]
+
+
+def by_either(rows, kind=0, error=11280):
+    """The slot of some rows under each header. By a bound every error is accepted."""
+    yield whole_slot(kind, error, rows)
+    yield whole_slot(kind, 0, rows, b"PS")
+
+
+def at_edges(rows):
+    """Pairs at the edges of rows: the first frame and the last, one before and one after, within, and
+    the same frames of the groups beside."""
+    pairs = []
+    for group, first, last, _ in rows:
+        for frame in (first - 1, first, (first + last) // 2, last, last + 1):
+            if 0 <= frame <= 65535:
+                pairs.append((group, frame))
+        pairs += [(beside % 8, first) for beside in (group - 1, group + 1)]
+    return pairs + [(group, frame) for group in (0, 7) for frame in (0, 65535)]
+
+
+def so_many(rows, count):
+    """So many pairs at the edges of rows, from the first on and again."""
+    return list(itertools.islice(itertools.cycle(at_edges(rows)), count))
+
+
+def eight_groups():
+    """Eight groups for one frame, in order and backwards: slot and pairs."""
+    for rows in ROW_LISTS:
+        for slot in by_either(rows):
+            frames = sorted({frame for _, frame in at_edges(rows)})
+            for frame in frames[:14 if len(rows) < 64 else 4] + frames[-2:]:
+                yield slot, [(group, frame) for group in range(8)]
+            yield slot, [(group, 0) for group in reversed(range(8))]
+
+
+def accepted_lookups():
+    """Calls that are accepted, of up to 64 pairs."""
+    for slot, pairs in eight_groups():
+        yield Lookups(slot, pairs)
+    for rows in ROW_LISTS:
+        pairs = at_edges(rows)
+        for turn, slot in enumerate(by_either(rows, kind=3)):
+            for start in range(32 * turn, len(pairs), 64):
+                yield Lookups(slot, pairs[start:start + 64], values=start % 5, covered=start % 3)
+    # All numbers of pairs, in turns with lists just long enough and with longer ones.
+    for count in range(65):
+        rows = ROW_LISTS[count % 6]
+        for turn, slot in enumerate(by_either(rows)):
+            more = (0, 1, 9, 0)[(count + turn) % 4]
+            yield Lookups(slot, so_many(rows, count), more, more, (more + turn) % 4)
+    # Longer lists, each alone and all.
+    for count in (0, 1, 8, 63, 64):
+        for more in ((1, 0, 0), (0, 1, 0), (0, 0, 1), (1, 1, 1), (0, 65, 0), (70, 2, 40)):
+            yield Lookups(whole_slot(0, 11280, ROWS_G), so_many(ROWS_G, count), *more)
+    # The same pair again and again, covered, uncovered and with value 0, and pairs in other orders.
+    for pair in ((0, 2), (0, 7), (1, 0), (1, 1), (7, 65535)):
+        for count in (2, 8, 64):
+            yield Lookups(whole_slot(4, 0, ROWS_G), [pair] * count)
+    for pair in ((0, 65535), (2, 0), (2, 65535), (3, 0), (3, 65535), (7, 32768)):
+        yield Lookups(whole_slot(1, 0, AT_ENDS), [pair] * 3, values=1)
+    backwards = [(group, first) for group, first, _, _ in reversed(EIGHT_GROUPS)]
+    for pairs in (backwards, backwards[::-1], backwards[1::2] + backwards[::2]):
+        yield Lookups(whole_slot(0, 0, EIGHT_GROUPS), pairs)
+    # A covered pair and an uncovered one in turns: nothing is left of the pair before.
+    for pairs in ([(0, 2), (0, 8)], [(0, 8), (0, 2)], [(1, 0), (0, 8), (0, 0)]):
+        yield Lookups(whole_slot(2, 0, ROWS_G), pairs * 20)
+
+
+def bad_groups():
+    """64 pairs, and fewer, with a wrong group at each index, and with two: what is due, and the call."""
+    slot = whole_slot(0, 0, [(group, 0, 40, 100 * group + 9) for group in range(0, 8, 2)])
+    for count in (1, 8, 64):
+        pairs = [(k % 8, k) for k in range(count)]
+        for index in range(count):
+            for group in (8, 255):
+                bad = pairs[:index] + [(group, pairs[index][1])] + pairs[index + 1:]
+                yield f"no 7 {index}", Lookups(slot, bad)
+            if index % 3 == 0:
+                later = bad[:index + 1] + [(group + 3 & 255 | 128, 0) for _ in bad[index + 1:]]
+                yield f"no 7 {index}", Lookups(slot, later, values=2, covered=1)
+            if index and index % 7 == 0:
+                last = bad[:-1] + [(8, 0)]
+                yield f"no 7 {index}", Lookups(slot, last)
+    # No group above 7 is one of a log, also in a slot without rows and where its frame lies in a row.
+    for rows in ([], ROWS_G, AT_ENDS):
+        for either in by_either(rows):
+            for group in (8, 9, 15, 16, 128, 255):
+                yield "no 7 2", Lookups(either, [(0, 0), (7, 0), (group, 0), (1, 0)])
+
+
+def wrong_lists():
+    """Lists that are too short, each alone and with others, and too many pairs: due and call."""
+    slot = whole_slot(0, 11280, ROWS_G)
+    for count in (1, 2, 8, 63, 64):
+        pairs = so_many(ROWS_G, count)
+        for lengths in itertools.product((-1, 0, 3), repeat=3):
+            if -1 in lengths and (count == 8 or 3 not in lengths):
+                yield "no 1 0", Lookups(slot, pairs, *lengths)
+        for place in range(3):
+            yield "no 1 0", Lookups(slot, pairs, *[-count if k == place else 0 for k in range(3)])
+        yield "no 1 0", Lookups(slot, pairs, -count, -count, -count)
+    for count in (65, 66, 128, 200, 256, 320):
+        pairs = so_many(ROWS_G, count)
+        for turn, either in enumerate(by_either(ROWS_G)):
+            yield "no 26 0", Lookups(either, pairs, turn, turn, 2 * turn)
+        for place in range(3):
+            # 64 places are enough for 64 pairs, and not for 65.
+            for places in (64, count - 1, 0):
+                short = [places - count if k == place else 0 for k in range(3)]
+                yield "no 1 0", Lookups(slot, pairs, *short)
+
+
+def wrong_slots():
+    """Slots that are refused, with pairs right and wrong and with none: due and call."""
+    slot = whole_slot(0, 11280, ROWS_G)
+    # Bytes of the slot: the header, and of each row mark, group, frames and value.
+    faults = [("no 11 0", 0, 0x51), ("no 11 0", 1, 0x49), ("no 11 0", 1, 0x43), ("no 17 0", 1, 0x53),
+              ("no 12 0", 2, 5), ("no 12 0", 2, 255), ("no 13 0", 3, 65), ("no 13 0", 3, 255),
+              ("no 14 4", 3, 5), ("no 14 4", 3, 64), ("no 17 0", 3, 3), ("no 17 0", 3, 0),
+              ("no 17 0", 56, 1), ("no 17 0", 400, 128), ("no 17 0", 767, 1)]
+    for row in range(4):
+        at = 12 + 11 * row
+        faults += [(f"no 14 {row}", at, 0x51), (f"no 14 {row}", at + 1, 0x53),
+                   (f"no 15 {row}", at + 2, 8), (f"no 15 {row}", at + 4, 1),
+                   (f"no 15 {row}", at + 9, 2)]
+    # The row before ends at or behind this one's first frame, or is of a later group.
+    faults += [("no 16 1", 26, 1), ("no 16 2", 37, 6), ("no 16 1", 14, 1), ("no 16 3", 36, 2)]
+    eight = [(group, 2) for group in range(8)]
+    bad = eight[:4] + [(8, 2)] + eight[5:]
+    for due, place, byte in faults:
+        damaged = with_byte(slot, place, byte)
+        for pairs in (eight, [], bad, so_many(ROWS_G, 65), bad * 9):
+            yield due, Lookups(damaged, pairs, values=1)
+        yield "no 1 0", Lookups(damaged, eight, values=-1)
+    # An error under the header of windows, and the last row of 64.
+    yield "no 17 0", Lookups(whole_slot(0, 1, ROWS_G, b"PS"), [])
+    yield "no 17 0", Lookups(whole_slot(0, 2 ** 56, BEATS_G, b"PS"), bad)
+    full = whole_slot(0, 0, EIGHT_GROUPS)
+    for due, place in (("no 14 63", 705), ("no 15 63", 707), ("no 16 63", 694), ("no 17 0", 716)):
+        damaged = with_byte(full, place, 8 if place == 707 else 7)
+        if place == 694:
+            # The last row but one ends with the last row's first frame.
+            damaged = with_byte(with_byte(full, 699, 210), 700, 0)
+        yield due, Lookups(damaged, eight)
+        yield due, Lookups(damaged, [])
+    # Short slots, and longer ones, whose later bytes are any.
+    later = bytes((7 * k + 1) % 256 for k in range(300))
+    for pairs in ([], eight, bad, so_many(ROWS_G, 65)):
+        for length in (0, 1, 12, 767):
+            yield "no 1 0", Lookups(slot[:length], pairs)
+    for length in (1, 2, 11, 300):
+        yield None, Lookups(slot + later[:length], eight)
+        yield "no 7 4", Lookups(slot + later[:length], bad)
+        yield "no 17 0", Lookups(with_byte(slot, 767, 1) + later[:length], eight)
+
+
+# The questions of many lookups in their order, 1 of each thing that is lent.
+LOOKUPS_ORDER = ["slot", "frames", "values", "covered", 11, 12, 13, 14, 15, 16, 17, 26, 7]
+
+
+def lookups_with(faults):
+    """A call that gets 'no' to these questions. Of damaged rows it is the second, of pairs the third."""
+    slot = whole_slot(0, 11280, ROWS_G)
+    bytes_of = {11: (0, 0x51), 12: (2, 5), 13: (3, 65), 14: (23, 0x51), 15: (32, 2), 16: (26, 1),
+                17: (767, 1)}
+    for fault in faults & bytes_of.keys():
+        slot = with_byte(slot, *bytes_of[fault])
+    pairs = so_many(ROWS_G, 65 if 26 in faults else 8)
+    if 7 in faults:
+        pairs[2] = (8, 2)
+    lengths = [-1 if name in faults else 0 for name in LOOKUPS_ORDER[1:4]]
+    return Lookups(slot[:767] if "slot" in faults else slot, pairs, *lengths)
+
+
+def lookups_in_order():
+    """Each question's 'no' alone, and with each later question's: due and call."""
+    for place, fault in enumerate(LOOKUPS_ORDER):
+        number = fault if isinstance(fault, int) else 1
+        index = {14: 1, 15: 1, 16: 1, 7: 2}.get(number, 0)
+        for later in LOOKUPS_ORDER[place:]:
+            yield f"no {number} {index}", lookups_with({fault, later})
+        yield f"no {number} {index}", lookups_with(set(LOOKUPS_ORDER[place:]))
+
+
+def lookups_at_random():
+    """Calls on slots with rows at random, of any number of pairs, with faults here and there."""
+    numbers = random.Random(10)
+    for _ in range(120):
+        rows, frame, group = [], 0, numbers.randint(0, 2)
+        for _ in range(numbers.choice((0, 1, 3, 8, 20))):
+            if numbers.randrange(4) == 0 and group < 7:
+                group, frame = group + 1, 0
+            first = frame + numbers.choice((0, 0, 1, 2, 300))
+            frame = first + numbers.choice((1, 1, 2, 5, 1000))
+            rows.append((group, first, frame - 1, numbers.choice((0, 1, 999, 128000))))
+        header = numbers.choice((b"PH", b"PS"))
+        slot = whole_slot(numbers.choice(KINDS), 0, rows, header)
+        if numbers.randrange(10) == 0:
+            slot = with_byte(slot, numbers.randrange(4, 768), numbers.randrange(256))
+        count = numbers.choice((1, 2, 8, 8, 8, numbers.randint(0, 70), numbers.randint(60, 64)))
+        pairs = numbers.choices(at_edges(rows), k=count)
+        if pairs and numbers.randrange(5) == 0:
+            for _ in range(numbers.choice((1, 1, 2))):
+                place = numbers.randrange(count)
+                pairs[place] = (numbers.choice((8, 9, 255)), pairs[place][1])
+        lengths = [numbers.choice((0, 0, 0, 0, 0, 0, 1, 3, 12, -1)) for _ in range(3)]
+        yield None, Lookups(slot, pairs, *[max(length, -count) for length in lengths])
+
+
+def lookups_calls():
+    """Calls of many lookups: what is due where it is known by the way the call was made, and the call."""
+    for call in accepted_lookups():
+        assert refused(call.questions()) is None
+        yield None, call
+    yield from bad_groups()
+    yield from wrong_lists()
+    yield from wrong_slots()
+    yield from lookups_in_order()
+    yield from lookups_at_random()
+
+
+LOOKUPS_HEAD = """\
+# Many lookups as a set and their answers, made by tools/expected.py --lookups. A line is
+#     LENGTH SLOT GROUPS FRAMES VALUES COVERED: ANSWER
+# LENGTH is the slot's length in bytes, and SLOT its bytes up to the zeros at its end, in hexadecimal;
+# GROUPS are bytes in hexadecimal and FRAMES numbers, - if there are none. VALUES and COVERED are how many
+# places the two lists have. Before the call place k, from 0, of the values holds 4,294,967,295 - k and of
+# the flags 2 + k mod 254. ANSWER is 'no', number and index, and then both lists are as they were; or all
+# places of the values and, in hexadecimal, all of the flags, - if there are none.
+"""
+
+
+def lookups_lines():
+    """The lines of the file of many lookups, each once."""
+    lines = {}
+    met = set()
+    for due, call in lookups_calls():
+        words = call.words()
+        if words not in lines:
+            answer = lines[words] = call.answer()
+            count = len(call.groups)
+            if answer.startswith("no "):
+                _, number, index = answer.split()
+                met.add(("no", int(number), int(index)))
+                met.add((int(number), "pairs", count))
+            else:
+                met.add(("pairs", count))
+                met.add(("header", call.slot[1]))
+                met.add(("rows", call.slot[3]))
+                met |= {("flag", flag, value > 0) for flag, value in
+                        zip(bytes.fromhex(answer.split()[1].strip("-")), [
+                            int(value) for value in answer.split()[0].split(",") if value != "-"])}
+                met |= {("later", name) for name in ("frames", "values", "covered")
+                        if len(getattr(call, name)) > count}
+        assert due in (None, lines[words]), (words, due, lines[words])
+    owed = {("no", number, 0) for number in (1, 11, 12, 13, 17, 26)}
+    owed |= {("no", number, index) for number in (14, 15) for index in (0, 1, 2, 3, 63)}
+    owed |= {("no", 16, index) for index in (1, 2, 3, 63)}
+    owed |= {("no", 7, index) for index in range(64)}
+    owed |= {("pairs", count) for count in range(65)} | {("header", byte) for byte in b"HS"}
+    owed |= {(26, "pairs", count) for count in (65, 66, 200)}
+    owed |= {(number, "pairs", count) for number in (11, 12, 13, 14, 15, 16, 17) for count in (0, 65)}
+    owed |= {("rows", 0), ("rows", 64), ("flag", 1, True), ("flag", 1, False), ("flag", 0, False)}
+    owed |= {("later", name) for name in ("frames", "values", "covered")}
+    assert owed <= met, owed - met
+    assert ("flag", 0, True) not in met and not any(("pairs", count) in met for count in range(65, 400))
+    return [f"{words}: {answer}\n" for words, answer in lines.items()]
+
+
 def check_halves():
     """With the lower number at a half, the same cases are refused, and the others have the same
     error, the same cuts weighed and rows of the same frames. A value is one less at a half, and
@@ -2196,6 +2545,21 @@ def check_known():
     pair = log_of([(4, 65000, 65533, 7), (4, 65000, 65534, 7)])
     assert remembered_segments(pair, 0, 3) == [[4, 65000, 65535, 14]]
     assert remembered_segments(pair, 0, 2) == [[4, 65000, 65534, 14], [4, 65535, 65535, 7]]
+    # Many lookups: eight groups of G's four rows for frame 0 into lists of nine places, the refusal of the
+    # fifth pair, and the order of the questions.
+    slot = whole_slot(0, 11280, ROWS_G)
+    assert ROWS_G == reduction(segments_of(g, 0), 0, ROWS, 4)[0]
+    assert BEATS_G == list(itertools.islice(window_rows(g, 0, Beats(4, 0).windows()), 65))
+    eight = [(group, 0) for group in range(8)]
+    assert Lookups(slot, eight, values=1, covered=1).answer() == (
+        "100,7,0,0,0,0,0,0,4294967287 01010000000000000a")
+    assert Lookups(slot, eight[:4] + [(8, 0)] + eight[5:]).answer() == "no 7 4"
+    assert Lookups(slot, [(0, frame) for frame in range(12)]).answer() == (
+        "100,100,242,242,242,242,242,0,0,50,50,0 010101010101010000010100")
+    assert Lookups(slot, []).answer() == "- -" and Lookups(slot[:767], []).answer() == "no 1 0"
+    assert [Lookups(slot, [(8, 0)] * 65, *[places - 65] * 3).answer() for places in (64, 65)] == [
+        "no 1 0", "no 26 0"]
+    assert Lookups(with_byte(slot, 767, 1), [(8, 0)] * 65).answer() == "no 17 0"
     # The published reductions: first and last frames are the same, and a row value is the whole
     # number nearest to the published mean, of which 467.5 is one.
     assert profile(case(0, ROWS, 4, log_of(PROJ))).split("\n")[1:5] == [
@@ -2234,6 +2598,7 @@ def main(words):
         "--twins": (TWINS_HEAD, twins_lines, "logs on file"),
         "--check": (CHECK_HEAD, check_lines, "slots with their logs"),
         "--memory": (MEMORY_HEAD, memory_lines, "calls with a memory"),
+        "--lookups": (LOOKUPS_HEAD, lookups_lines, "calls of many lookups"),
     }
     if len(words) == 2 and words[0] in listed:
         head, lines_of, name = listed[words[0]]

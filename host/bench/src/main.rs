@@ -297,13 +297,26 @@ fn measure(rounds: usize, versions: &mut [&mut dyn FnMut()]) -> Times {
 /// The plain versions that the library is held to, in the order of their columns.
 const PLAIN: [&str; 2] = ["plain", "keeping"];
 
-/// The ratios printed, by plain version, for the last lines.
+/// What many lookups are held to: a plain version that halves the rows, as the library does, one that asks
+/// one row after the other, and as many single lookups of the library.
+const OF_LOOKUPS: [&str; 3] = ["plain", "rowwise", "singles"];
+
+/// The ratios printed, by what the library is held to, for the last lines.
 struct Report {
     rounds: usize,
-    ratios: [Vec<f64>; PLAIN.len()],
+    others: &'static [&'static str],
+    ratios: Vec<Vec<f64>>,
 }
 
 impl Report {
+    fn new(rounds: usize, others: &'static [&'static str]) -> Self {
+        Report {
+            rounds,
+            others,
+            ratios: vec![Vec::new(); others.len()],
+        }
+    }
+
     /// Prints a row; the library is the first of the versions.
     fn line(&mut self, what: &str, numbers: &str, versions: &mut [&mut dyn FnMut()]) {
         let times = measure(self.rounds, versions);
@@ -321,11 +334,16 @@ impl Report {
 
 /// The head of a table in which the library is held to so many plain versions.
 fn head(numbers: &str, plain: usize) {
+    head_of(numbers, &PLAIN[..plain]);
+}
+
+/// The head of a table in which the library is held to others.
+fn head_of(numbers: &str, others: &[&str]) {
     print!("\n{:<38} {numbers:>29} {:>10}", "", "library µs");
-    for name in &PLAIN[..plain] {
+    for name in others {
         print!(" {:>10}", format!("{name} µs"));
     }
-    for name in &PLAIN[..plain] {
+    for name in others {
         print!(" {:>9}", format!("/ {name}"));
     }
     println!();
@@ -760,6 +778,182 @@ fn slot_lines(report: &mut Report, by: &str, slot: &[u8; 768]) {
     }
 }
 
+/// Pairs of group and frame, and what they are called.
+struct Pairs {
+    name: &'static str,
+    groups: Vec<u8>,
+    frames: Vec<u16>,
+}
+
+/// The pairs that are looked up in a slot: eight groups for one frame, which lies in the middle of its
+/// rows, eight groups for eight frames, and 64 frames of the first row's group, one in each row of 64.
+fn pairs_of(slot: &[u8; 768]) -> Vec<Pairs> {
+    let profile = pacer::read(slot).expect("an accepted slot");
+    let rows = profile.rows();
+    let first = |place: usize| {
+        rows.get(place % rows.len().max(1))
+            .map_or(0, |row| row.first)
+    };
+    let group = rows.first().map_or(0, |row| row.group);
+    let pairs = |name, pairs: Vec<(u8, u16)>| {
+        let (groups, frames) = pairs.into_iter().unzip();
+        Pairs {
+            name,
+            groups,
+            frames,
+        }
+    };
+    let of_frame = |frame| (0..8).map(move |group| (group, frame));
+    vec![
+        pairs("8 groups", of_frame(first(rows.len() / 2)).collect()),
+        pairs(
+            "8 groups, 8 frames",
+            (0..8).flat_map(|i| of_frame(first(i * 9))).collect(),
+        ),
+        pairs(
+            "1 group, 64 frames",
+            (0..64).map(|i| (group, first(i))).collect(),
+        ),
+    ]
+}
+
+/// The single lookups of some pairs, one after the other, into two lists.
+fn singles(slot: &[u8], groups: &[u8], frames: &[u16], values: &mut [u32], covered: &mut [u8]) {
+    let places = values.iter_mut().zip(covered);
+    for ((group, frame), (value, covered)) in groups.iter().zip(frames).zip(places) {
+        let answer = c::lookup(slot, *group, *frame);
+        *value = answer.value;
+        *covered = answer.covered;
+    }
+}
+
+/// Many lookups as a set on a slot: against both plain versions, and against as many single lookups of the
+/// library. All give the same.
+fn lookups_line(report: &mut Report, by: &str, slot: &[u8; 768], pairs: &Pairs) {
+    let Pairs {
+        name,
+        groups,
+        frames,
+    } = pairs;
+    let count = groups.len();
+    let blank = || (vec![u32::MAX; count], vec![0xEE; count]);
+    let (mut values, mut covered) = blank();
+    let answer = c::lookups(slot, groups, frames, &mut values, &mut covered);
+    assert_eq!((answer.question, answer.index), (0, 0), "{name}");
+    let found = covered.iter().filter(|flag| **flag == 1).count();
+    for halving in [false, true] {
+        let (mut others, mut flags) = blank();
+        let no = plain_lookups(
+            halving,
+            slot,
+            black_box(groups),
+            frames,
+            &mut others,
+            &mut flags,
+        );
+        assert_eq!((no, &others, &flags), ((0, 0), &values, &covered), "{name}");
+    }
+    let (mut others, mut flags) = blank();
+    singles(slot, groups, frames, &mut others, &mut flags);
+    assert_eq!((&others, &flags), (&values, &covered), "{name}");
+
+    let input = || black_box((slot, &groups[..], &frames[..]));
+    let mut library = || {
+        let (slot, groups, frames) = input();
+        black_box(c::lookups(slot, groups, frames, &mut values, &mut covered));
+    };
+    let (mut row_values, mut row_flags) = blank();
+    let mut row_by_row = || {
+        let (slot, groups, frames) = input();
+        black_box(plain::lookups(
+            plain::find_value,
+            slot,
+            groups,
+            frames,
+            &mut row_values,
+            &mut row_flags,
+        ));
+    };
+    let (mut half_values, mut half_flags) = blank();
+    let mut halving = || {
+        let (slot, groups, frames) = input();
+        black_box(plain::lookups(
+            plain::find_by_halving,
+            slot,
+            groups,
+            frames,
+            &mut half_values,
+            &mut half_flags,
+        ));
+    };
+    let mut one_by_one = || {
+        let (slot, groups, frames) = input();
+        singles(slot, groups, frames, &mut others, &mut flags);
+        black_box((&others, &flags));
+    };
+    report.line(
+        &format!("lookups{by}, {name}"),
+        &format!("{:>4} {count:>5} {found:>7}", slot[3]),
+        &mut [&mut library, &mut row_by_row, &mut halving, &mut one_by_one],
+    );
+}
+
+/// One of the two plain versions of many lookups.
+fn plain_lookups(
+    halving: bool,
+    slot: &[u8],
+    groups: &[u8],
+    frames: &[u16],
+    values: &mut [u32],
+    covered: &mut [u8],
+) -> (u8, usize) {
+    if halving {
+        plain::lookups(
+            plain::find_by_halving,
+            slot,
+            groups,
+            frames,
+            values,
+            covered,
+        )
+    } else {
+        plain::lookups(plain::find_value, slot, groups, frames, values, covered)
+    }
+}
+
+/// The slots that pairs are looked up in: of few rows and many of one group, and eight rows of each group.
+fn lookups_slots() -> Vec<(&'static str, [u8; 768])> {
+    let by_group: Vec<u8> = (0..64)
+        .flat_map(|i| {
+            record(
+                (i / 8) as u8,
+                30 * (i % 8),
+                30 * (i % 8) + 19,
+                1 + noise(i) % 1000,
+            )
+        })
+        .collect();
+    let mut eight = [0; 768];
+    let answer = c::query(Kind::SUM.0, c::ROWS, 64, NO_MEMORY, &by_group, &mut eight);
+    assert_eq!((answer.question, answer.rows), (0, 64));
+    vec![
+        ("", slot_of(6)),
+        ("", slot_of(20)),
+        ("", slot_of(64)),
+        (" by windows", windows_slot_of(64)),
+        (" by group", eight),
+    ]
+}
+
+/// Many lookups as a set, of each slot with each list of pairs.
+fn lookups_lines(report: &mut Report) {
+    for (by, slot) in lookups_slots() {
+        for pairs in pairs_of(&slot) {
+            lookups_line(report, by, &slot, &pairs);
+        }
+    }
+}
+
 /// The segment counts of logs that slots are held to.
 const CHECKED_SIZES: [usize; 3] = [6, 60, 255];
 
@@ -880,10 +1074,7 @@ fn main() {
         .nth(1)
         .and_then(|word| word.parse().ok())
         .unwrap_or(51);
-    let mut report = Report {
-        rounds,
-        ratios: Default::default(),
-    };
+    let mut report = Report::new(rounds, &PLAIN);
     println!("The proved library (as `rt staticlib` built it) against the same algorithm in plain safe Rust");
     println!("(built for release), in one process: the same inputs, in turns, {rounds} rounds.");
     println!("'plain' works a block's error out for every candidate; 'keeping' works each out once per query,");
@@ -895,6 +1086,8 @@ fn main() {
     println!("window to window over those that no record meets; 'no 20' is the refusal of more than 64 rows.");
     println!("Only logs of 'without_twins', the call for logs on file, hold equal records. A slot is held to its");
     println!("log ('check') by one plain version, which finds the segments and walks rows and segments together.");
+    println!("Many lookups ('lookups') have two, which ask the slot once: 'plain' finds each pair's row by halving the");
+    println!("rows, 'rowwise' asks one row after the other. 'singles' are as many single lookups of the library.");
     println!("A row named 'shuffled' has the records of the row without that word in another order, and the");
     println!("same answer. A row with 'w' and a number has a memory of so many frames, and n segments by it; the");
     println!("plain versions move the last frames of the records as they read them. All others have none.");
@@ -1014,13 +1207,19 @@ fn main() {
     let mixed: Vec<_> = (0..SLOTS).map(|i| slot_of(noise(i) % 65)).collect();
     boot_line(&mut report, "0 to 64", &mixed);
 
-    println!();
-    for (name, ratios) in PLAIN.iter().zip(&report.ratios) {
-        let above = ratios.iter().filter(|ratio| **ratio > 1.0).count();
-        let highest = ratios.iter().copied().fold(0.0, f64::max);
-        println!(
-            "against '{name}': {} rows, {above} with a ratio above 1.00, the highest {highest:.2}",
-            ratios.len()
-        );
+    let mut lookups = Report::new(rounds, &OF_LOOKUPS);
+    head_of("rows pairs covered", &OF_LOOKUPS);
+    lookups_lines(&mut lookups);
+
+    for (what, report) in [("", &report), ("many lookups ", &lookups)] {
+        println!();
+        for (name, ratios) in report.others.iter().zip(&report.ratios) {
+            let above = ratios.iter().filter(|ratio| **ratio > 1.0).count();
+            let highest = ratios.iter().copied().fold(0.0, f64::max);
+            println!(
+                "{what}against '{name}': {} rows, {above} with a ratio above 1.00, the highest {highest:.2}",
+                ratios.len()
+            );
+        }
     }
 }

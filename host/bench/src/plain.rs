@@ -3,7 +3,9 @@
 //! Segments are found from event to event, the split table is filled with incremental block
 //! totals and left early, and the same questions are asked. The table has the paper's 64 times
 //! 256 entries, all 'no cut' at first. Equal records are found by comparing a record, as one
-//! number, with all before it. A slot is held to its log by walking rows and segments together. With a
+//! number, with all before it. A slot is held to its log by walking rows and segments together. Many
+//! lookups ask the slot once; there are two versions of them, one finds each pair's row by halving the
+//! rows, which are in order, the other as a single lookup does. With a
 //! memory a record counts in some frames behind its last one: its last frame is moved as it is read.
 //!
 //! There are two versions of the query. They differ in where a block's error comes from: [`Anew`]
@@ -565,6 +567,24 @@ pub fn read(slot: &[u8]) -> ReadAnswer {
     }
 }
 
+/// The value of the row that contains a frame of a group, among the rows' bytes: one row after the
+/// other is asked.
+pub fn find_value(rows: &[u8], group: u8, frame: u16) -> Option<u32> {
+    rows.chunks_exact(11)
+        .find(|row| row[2] == group && two(row, 3) <= frame && frame <= two(row, 5))
+        .map(|row| u32::from_le_bytes([row[7], row[8], row[9], row[10]]))
+}
+
+/// The same by halving: only the first row that does not end before the frame can contain it.
+pub fn find_by_halving(rows: &[u8], group: u8, frame: u16) -> Option<u32> {
+    let (rows, _) = rows.as_chunks::<11>();
+    let place = u32::from(group) << 16 | u32::from(frame);
+    let at = rows.partition_point(|row| (u32::from(row[2]) << 16 | u32::from(two(row, 5))) < place);
+    let row = rows.get(at)?;
+    (row[2] == group && two(row, 3) <= frame)
+        .then(|| u32::from_le_bytes([row[7], row[8], row[9], row[10]]))
+}
+
 /// Lookup: question, index, and the value if the frame is covered.
 pub fn lookup(slot: &[u8], group: u8, frame: u16) -> (u8, usize, Option<u32>) {
     let rows = match ask_slot(slot) {
@@ -574,11 +594,50 @@ pub fn lookup(slot: &[u8], group: u8, frame: u16) -> (u8, usize, Option<u32>) {
     if group > 7 {
         return (7, 0, None);
     }
-    let value = rows
-        .chunks_exact(11)
-        .find(|row| row[2] == group && two(row, 3) <= frame && frame <= two(row, 5))
-        .map(|row| u32::from_le_bytes([row[7], row[8], row[9], row[10]]));
-    (0, 0, value)
+    (0, 0, find_value(rows, group, frame))
+}
+
+/// Many lookups as a set, where a pair's row is found so: question and index.
+pub fn lookups(
+    find: impl Fn(&[u8], u8, u16) -> Option<u32>,
+    slot: &[u8],
+    groups: &[u8],
+    frames: &[u16],
+    values: &mut [u32],
+    covered: &mut [u8],
+) -> No {
+    match try_lookups(find, slot, groups, frames, values, covered) {
+        Ok(()) => (0, 0),
+        Err(no) => no,
+    }
+}
+
+fn try_lookups(
+    find: impl Fn(&[u8], u8, u16) -> Option<u32>,
+    slot: &[u8],
+    groups: &[u8],
+    frames: &[u16],
+    values: &mut [u32],
+    covered: &mut [u8],
+) -> Result<(), No> {
+    let pairs = groups.len();
+    let frames = frames.get(..pairs).ok_or((1, 0))?;
+    let values = values.get_mut(..pairs).ok_or((1, 0))?;
+    let covered = covered.get_mut(..pairs).ok_or((1, 0))?;
+    let (_, rows) = ask_slot(slot)?;
+    if pairs > 64 {
+        return Err((26, 0));
+    }
+    if let Some(index) = groups.iter().position(|group| *group > 7) {
+        return Err((7, index));
+    }
+    let places = values.iter_mut().zip(covered);
+    for ((group, frame), (value, covered)) in groups.iter().zip(frames).zip(places) {
+        let found = find(rows, *group, *frame);
+        *value = found.unwrap_or(0);
+        *covered = u8::from(found.is_some());
+    }
+    Ok(())
 }
 
 /// A slot against its log: question and index.

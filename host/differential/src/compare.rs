@@ -2,6 +2,7 @@
 
 use crate::check::{self, Checked};
 use crate::inputs;
+use crate::lookups::{self, LookedUp};
 use crate::memory::Remembered;
 use crate::order::{self, Ask, Shuffled};
 use crate::random::Random;
@@ -12,7 +13,7 @@ use reference::{Contents, Half, No, Reduction, Stretch};
 use std::fmt::Debug;
 
 /// How often each question was the first 'no', and at place 0 how often there was none.
-pub type ByQuestion = [u64; 26];
+pub type ByQuestion = [u64; 27];
 
 /// What was answered, over all calls.
 #[derive(Clone, Default)]
@@ -50,6 +51,8 @@ pub struct Seen {
     pub order: Shuffled,
     /// Slots held to their logs.
     pub checked: Checked,
+    /// Many lookups as a set.
+    pub lookups: LookedUp,
     /// What the widths of queries and of the segment call met; and how often a wrong one stood ahead of
     /// a log that fails too, and behind something else that is wrong (1 to 3).
     pub memory: Remembered,
@@ -93,6 +96,7 @@ impl Seen {
         self.most_weighed = self.most_weighed.max(other.most_weighed);
         self.order.join(&other.order);
         self.checked.join(&other.checked);
+        self.lookups.join(&other.lookups);
         self.memory.join(&other.memory);
         self.width_ahead += other.width_ahead;
         self.width_behind += other.width_behind;
@@ -597,7 +601,7 @@ fn only_error(slot: &[u8]) -> bool {
     reference::read(&without).is_ok()
 }
 
-/// The calls on a slot: read, read_rows, row_at for every number, and some lookups.
+/// The calls on a slot: read, read_rows, row_at for every number, some lookups, and many as a set.
 pub fn slot_calls(random: &mut Random, slot: &[u8], seen: &mut Seen) -> Result<(), String> {
     let expected = reference::read(slot);
     let (question, index) = number(&expected);
@@ -695,7 +699,7 @@ pub fn slot_calls(random: &mut Random, slot: &[u8], seen: &mut Seen) -> Result<(
             },
         )?;
     }
-    Ok(())
+    lookups::run(random, slot, &rows, &mut seen.lookups)
 }
 
 /// The record writer.

@@ -7,7 +7,8 @@
 //! frames, for every row count the slots with one bit of the tail set, fixed logs with windows at
 //! the edges of what is allowed, as many small logs as above by windows gone through frame by
 //! frame, and long logs with twins at every two places. Queries by a bound, the segment call and the
-//! check of a slot have widths of all kinds, right and wrong, most often 1. Every log that is run
+//! check of a slot have widths of all kinds, right and wrong, most often 1. In every slot many pairs of
+//! group and frame are looked up as a set, with lists of all lengths. Every log that is run
 //! through a query or the segment call is run again with its records in another order, and every slot
 //! that a query writes is held to its log, as it is and made otherwise, and with other widths. The seed is fixed unless one is given, and
 //! is printed. A difference is printed with the words that run its case alone, and the status is
@@ -19,6 +20,7 @@ mod check;
 mod compare;
 mod demand;
 mod inputs;
+mod lookups;
 mod memory;
 mod order;
 mod random;
@@ -29,6 +31,7 @@ mod windows;
 use check::Checked;
 use compare::{ByQuestion, Seen};
 use demand::Tried;
+use lookups::LookedUp;
 use memory::Remembered;
 use order::{Met, Shuffled};
 use random::Random;
@@ -381,6 +384,46 @@ fn unreached_in_check(part: Part, cases: u64, checked: &Checked) -> Vec<String> 
     }
 }
 
+/// What many lookups on the slots of a part got too rarely; `cases` is how many cases it had.
+fn unreached_in_lookups(part: Part, cases: u64, lookups: &LookedUp) -> Vec<String> {
+    use lookups::Met::*;
+    let asked = [0, 1, 7, 11, 12, 13, 14, 15, 16, 17, 26];
+    // Of each in every hundred cases at least one, and of what is rare in every thousand.
+    let (often, seldom) = (cases / 100, cases / 1000);
+    match part {
+        Part::Random => [
+            zeros("many lookups", lookups.questions(), &asked),
+            lookups.missing(
+                &[EightGroups, NoPair, MostPairs, Later, ByWindows, Twice],
+                often,
+            ),
+            lookups.missing(&[Covered, CoveredByZero, Uncovered], often),
+            lookups.missing(&[First, Last, Before, Behind], often),
+            lookups.missing(&[ShortFrames, ShortValues, ShortFlags], often),
+            lookups.missing(
+                &[JustTooMany, BadFirst, BadLast, BadBetween, BadTwice],
+                often,
+            ),
+            lookups.missing(&[JustShort, ShortAhead, TooManyAhead], seldom),
+            lookups.missing(&[SlotNoPair, SlotTooMany, SlotBadGroup], seldom),
+        ]
+        .concat(),
+        Part::Tails => [
+            zeros("many lookups", lookups.questions(), &[0, 17]),
+            // Slots with one bit set, in every thousand one of each.
+            lookups.missing(&[SlotNoPair, SlotTooMany, SlotBadGroup], TAIL_BITS / 1000),
+        ]
+        .concat(),
+        Part::Edges => [
+            zeros("many lookups", lookups.questions(), &[0, 1, 7, 11, 17, 26]),
+            lookups.missing(&[EightGroups, MostPairs, ByWindows, BadBetween], 100),
+        ]
+        .concat(),
+        // Logs alone have no slot to look into.
+        Part::Small | Part::Many | Part::Frames | Part::Twins => Vec::new(),
+    }
+}
+
 /// Prints what was refused for twins, and what was kept of logs on file.
 fn print_twins(seen: &Seen) {
     println!(
@@ -578,6 +621,16 @@ fn main() -> ExitCode {
                     return ExitCode::FAILURE;
                 }
             }
+        }
+        let lookups = &counts.seen.lookups;
+        if matches!(part, Part::Random | Part::Tails | Part::Edges) {
+            print_counts("many lookups", lookups.questions());
+            lookups.print();
+        }
+        let missing = unreached_in_lookups(part, cases, lookups);
+        if (part != Part::Random || cases >= CASES) && !missing.is_empty() {
+            println!("no case gave: {}", missing.join(", "));
+            return ExitCode::FAILURE;
         }
         // Slots alone have no order and no log.
         if part != Part::Tails {

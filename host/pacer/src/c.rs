@@ -102,6 +102,14 @@ pub struct LookupAnswer {
     pub value: u32,
 }
 
+/// The answer of [`lookups`].
+#[repr(C)]
+#[derive(Clone, Copy, Debug, PartialEq, Eq)]
+pub struct LookupsAnswer {
+    pub question: u8,
+    pub index: usize,
+}
+
 /// A longest stretch of consecutive covered frames of one group with equal value.
 ///
 /// Both frames are included. The layout is that of the C interface, so that a list of segments
@@ -203,6 +211,18 @@ mod declared {
         ) -> ReadAnswer;
         pub fn pacer_row_at(slot: *const u8, length: usize, number: usize) -> StepAnswer;
         pub fn pacer_lookup(slot: *const u8, length: usize, group: u8, frame: u16) -> LookupAnswer;
+        pub fn pacer_lookups(
+            slot: *const u8,
+            length: usize,
+            groups: *const u8,
+            pairs: usize,
+            frames: *const u16,
+            frame_count: usize,
+            values: *mut u32,
+            value_places: usize,
+            covered: *mut u8,
+            covered_places: usize,
+        ) -> LookupsAnswer;
         pub fn pacer_check(
             log: *const u8,
             log_length: usize,
@@ -353,6 +373,34 @@ pub fn row_at(slot: &[u8], number: usize) -> StepAnswer {
 pub fn lookup(slot: &[u8], group: u8, frame: u16) -> LookupAnswer {
     // SAFETY: pointer and length are those of a slice.
     unsafe { declared::pacer_lookup(slot.as_ptr(), slot.len(), group, frame) }
+}
+
+/// Calls `pacer_lookups`. There are as many pairs as groups; a list of frames, values or flags that is
+/// shorter is question 1's 'no'.
+#[inline]
+pub fn lookups(
+    slot: &[u8],
+    groups: &[u8],
+    frames: &[u16],
+    values: &mut [u32],
+    covered: &mut [u8],
+) -> LookupsAnswer {
+    // SAFETY: pointers and lengths are those of shared slices and of two exclusive ones, which overlap
+    // neither each other nor any of the shared ones.
+    unsafe {
+        declared::pacer_lookups(
+            slot.as_ptr(),
+            slot.len(),
+            groups.as_ptr(),
+            groups.len(),
+            frames.as_ptr(),
+            frames.len(),
+            values.as_mut_ptr(),
+            values.len(),
+            covered.as_mut_ptr(),
+            covered.len(),
+        )
+    }
 }
 
 /// Calls `pacer_check`. The width is that of the query that wrote the slot.

@@ -45,6 +45,9 @@
 //! at least one of the last frames, as many as a width says: [`Query::with_memory`],
 //! [`segments_with_memory`], [`check_with_memory`].
 //!
+//! Many pairs of group and frame are looked up as a set by [`lookups`]: all of them are answered, or
+//! none is.
+//!
 //! Every call asks its questions in order. The first that gets 'no' is the [`Refusal`], and then
 //! nothing lent to the call is changed. A log that holds a record twice is refused by question 21;
 //! [`without_twins`] is for such logs on file. A slot that comes with its log, made by whichever
@@ -81,6 +84,8 @@ pub const SLOT_BYTES: usize = 768;
 pub const ROWS: usize = 64;
 /// The greatest number of scenes in a query.
 pub const SCENES: usize = 16;
+/// The greatest number of pairs in a call of [`lookups`].
+pub const PAIRS: usize = 64;
 /// The greatest width of a memory, in frames.
 pub const MOST_WIDTH: u16 = c::MOST_WIDTH;
 
@@ -342,9 +347,9 @@ pub struct Reduction {
 /// ```
 #[derive(Clone, Copy, Debug, PartialEq, Eq, Hash)]
 pub struct Refusal {
-    /// The question's number, 1 to 25.
+    /// The question's number, 1 to 26.
     pub question: u8,
-    /// The index from 0 of the record or row concerned, for questions 6 to 9, 14 to 16 and 21; 0
+    /// The index from 0 of the record, row or pair concerned, for questions 6 to 9, 14 to 16 and 21; 0
     /// for the others.
     pub index: usize,
 }
@@ -361,7 +366,7 @@ impl Refusal {
     /// ```
     pub fn words(&self) -> &'static str {
         match self.question {
-            1 => "Is the lent buffer or list long enough (slot 768, segments 255, rows 64, record 9, and for a log without its twins as long as the log)?",
+            1 => "Is the lent buffer or list long enough (slot 768, segments 255, rows 64, record 9, for a log without its twins as long as the log, and for many lookups as long as the pairs)?",
             2 => "Is the kind 0 to 4?",
             3 => "Is c at most 64, or p at most 1,000?",
             4 => "Is the log's length a multiple of 9?",
@@ -386,6 +391,7 @@ impl Refusal {
             23 => "Is no row of kind 3 below the value of a covered frame in it?",
             24 => "Is the header's error the squared error of the rows, summed frame by frame?",
             25 => "Is the width 1 to 4,096?",
+            26 => "Are there at most 64 pairs?",
             _ => "unknown question",
         }
     }
@@ -806,6 +812,32 @@ impl Profile<'_> {
         lookup(self.slot, group, frame)
     }
 
+    /// The values of many pairs of group and frame as a set, as [`lookups`] gives them. Asks questions
+    /// 26 and 7.
+    ///
+    /// ```
+    /// # use pacer::{Kind, Query, Record, Rule};
+    /// # let log = pacer::log(&[Record { group: 3, first: 5, last: 9, load: 40 }])?;
+    /// # let mut slot = [0; pacer::SLOT_BYTES];
+    /// # pacer::query(Query::new(Kind::SUM, Rule::Rows(1)), &log, &mut slot)?;
+    /// let profile = pacer::read(&slot)?;
+    /// assert_eq!(profile.lookups(&[(3, 9), (3, 10), (2, 9)])?, [Some(40), None, None]);
+    /// # Ok::<(), pacer::Refusal>(())
+    /// ```
+    pub fn lookups(&self, pairs: &[(u8, u16)]) -> Result<Vec<Option<u32>>, Refusal> {
+        lookups(self.slot, pairs)
+    }
+
+    /// The same into a lent list, as [`lookups_into`] writes them. Asks questions 1 of the list, 26 and
+    /// 7.
+    pub fn lookups_into(
+        &self,
+        pairs: &[(u8, u16)],
+        answers: &mut [Option<u32>],
+    ) -> Result<(), Refusal> {
+        lookups_into(self.slot, pairs, answers)
+    }
+
     /// Whether the rows and the error are those of a log, as [`check`] says.
     pub fn check(&self, log: &[u8]) -> Result<(), Refusal> {
         check(log, self.slot)
@@ -920,6 +952,100 @@ pub fn lookup(slot: &[u8], group: u8, frame: u16) -> Result<Option<u32>, Refusal
     let answer = c::lookup(slot, group, frame);
     Refusal::from_answer(answer.question, answer.index)?;
     Ok((answer.covered == 1).then_some(answer.value))
+}
+
+/// Looks up many pairs of group and frame as a set: the answer of each, as [`lookup`] gives it, in the
+/// order of the pairs; or a refusal, and no answer at all.
+///
+/// Asks questions 1 and 11 to 17 of the slot, with no pairs too, then 26 (at most [`PAIRS`]), and then 7
+/// of pair after pair; the refusal's index is the pair's.
+///
+/// The answers are in a list that is made for them; [`lookups_into`] makes none.
+///
+/// ```
+/// use pacer::{Kind, Query, Record, Rule, PAIRS};
+///
+/// // Two groups at frame 2, and one of them where it is uncovered.
+/// let log = pacer::log(&[
+///     Record { group: 0, first: 0, last: 3, load: 100 },
+///     Record { group: 5, first: 2, last: 2, load: 0 },
+/// ])?;
+/// let mut slot = [0; pacer::SLOT_BYTES];
+/// pacer::query(Query::new(Kind::SUM, Rule::Rows(2)), &log, &mut slot)?;
+/// let answers = pacer::lookups(&slot, &[(5, 2), (0, 2), (0, 4)])?;
+/// assert_eq!(answers, [Some(0), Some(100), None]);
+///
+/// // The third pair is the first with a group that there is not.
+/// let refusal = pacer::lookups(&slot, &[(5, 2), (0, 2), (8, 2), (9, 2)]).unwrap_err();
+/// assert_eq!((refusal.question, refusal.index), (7, 2));
+///
+/// assert_eq!(pacer::lookups(&slot, &[(0, 3); PAIRS])?, [Some(100); PAIRS]);
+/// let refusal = pacer::lookups(&slot, &[(0, 3); PAIRS + 1]).unwrap_err();
+/// assert_eq!(refusal.to_string(), "question 26 got 'no': Are there at most 64 pairs?");
+/// # Ok::<(), pacer::Refusal>(())
+/// ```
+pub fn lookups(slot: &[u8], pairs: &[(u8, u16)]) -> Result<Vec<Option<u32>>, Refusal> {
+    let mut answers = vec![None; pairs.len()];
+    lookups_into(slot, pairs, &mut answers)?;
+    Ok(answers)
+}
+
+/// Looks up many pairs of group and frame as a set, as [`lookups`] does, into a list of at least as many
+/// places; later places keep their content, and in a refusal all do. Nothing is allocated.
+///
+/// Asks question 1 of the slot and of the list, then what [`lookups`] asks.
+///
+/// ```
+/// # use pacer::{Kind, Query, Record, Rule};
+/// # let log = pacer::log(&[Record { group: 3, first: 5, last: 9, load: 40 }])?;
+/// # let mut slot = [0; pacer::SLOT_BYTES];
+/// # pacer::query(Query::new(Kind::SUM, Rule::Rows(1)), &log, &mut slot)?;
+/// // Eight groups for one frame. What they are mixed from is set as a whole or stays as it was.
+/// let at = |frame| [0, 1, 2, 3, 4, 5, 6, 7].map(|group| (group, frame));
+/// let mut mixed = [Some(1); 8];
+/// pacer::lookups_into(&slot, &at(9), &mut mixed)?;
+/// assert_eq!(mixed, [None, None, None, Some(40), None, None, None, None]);
+///
+/// let mut pairs = at(10);
+/// pairs[4].0 = 8;
+/// let refusal = pacer::lookups_into(&slot, &pairs, &mut mixed).unwrap_err();
+/// assert_eq!((refusal.question, refusal.index), (7, 4));
+/// assert_eq!(mixed[3], Some(40));
+///
+/// let refusal = pacer::lookups_into(&slot, &at(9), &mut mixed[..7]).unwrap_err();
+/// assert_eq!(refusal.question, 1);
+/// # Ok::<(), pacer::Refusal>(())
+/// ```
+pub fn lookups_into(
+    slot: &[u8],
+    pairs: &[(u8, u16)],
+    answers: &mut [Option<u32>],
+) -> Result<(), Refusal> {
+    // One pair too many is as wrong a count as several, and one place too few as short a list.
+    let count = pairs.len().min(PAIRS + 1);
+    let places = if answers.len() < pairs.len() {
+        count - 1
+    } else {
+        count
+    };
+    let (mut groups, mut frames) = ([0; PAIRS + 1], [0; PAIRS + 1]);
+    for (place, (group, frame)) in pairs[..count].iter().enumerate() {
+        groups[place] = *group;
+        frames[place] = *frame;
+    }
+    let (mut values, mut covered) = ([0; PAIRS + 1], [0; PAIRS + 1]);
+    let answer = c::lookups(
+        slot,
+        &groups[..count],
+        &frames[..count],
+        &mut values[..places],
+        &mut covered[..places],
+    );
+    Refusal::from_answer(answer.question, answer.index)?;
+    for (place, answer) in answers[..count].iter_mut().enumerate() {
+        *answer = (covered[place] == 1).then_some(values[place]);
+    }
+    Ok(())
 }
 
 /// Holds a slot by a bound, made by whichever tool, to the log that it comes with: `Ok` exactly if

@@ -5,7 +5,8 @@
 //! error of a block is summed over its segments, not computed from totals; the reduction is a
 //! plain table over all cuts, with no early exit, and the cuts that the paper's scan weighs are
 //! counted beside it. Rows by windows are found window by window, the empty ones included. Twins are
-//! found in a set of the records' bytes. A slot is held to its log frame by frame. With a memory, each
+//! found in a set of the records' bytes. A slot is held to its log frame by frame. Many lookups go from
+//! row to row and ask which pairs lie in it. With a memory, each
 //! frame is asked which records meet the last frames; no record is made longer. [`brute`] goes
 //! further: it tries every list of rows for a small log, goes through the frames of a window and
 //! through the last frames of each frame, and holds every record to every earlier one.
@@ -31,6 +32,8 @@ pub const BY_BOUND: u8 = 0x48;
 pub const BY_WINDOWS: u8 = 0x53;
 /// The greatest number of rows in a slot.
 pub const MOST_ROWS: usize = 64;
+/// The greatest number of pairs in many lookups.
+pub const MOST_PAIRS: usize = 64;
 /// The width without a memory.
 pub const ONE_FRAME: u16 = 1;
 /// The greatest width of a memory.
@@ -713,7 +716,7 @@ pub fn without_twins(log: &[u8], room: usize) -> Result<Vec<u8>, No> {
 }
 
 // ---------------------------------------------------------------------------------------------
-// Slot, reader, walk, lookup, a slot against its log, writer
+// Slot, reader, walk, lookup, many lookups, a slot against its log, writer
 
 /// The 768 bytes of a slot; the mark is the second byte.
 pub fn layout(mark: u8, kind: u8, error: u64, rows: &[Stretch]) -> Vec<u8> {
@@ -775,6 +778,38 @@ pub fn lookup(slot: &[u8], group: u8, frame: u16) -> Result<Option<u32>, No> {
         .iter()
         .find(|row| row.contains(group, u32::from(frame)))
         .map(|row| row.value))
+}
+
+/// What many lookups leave in the two lists that are lent, each place of them.
+#[derive(Clone, Debug, PartialEq, Eq)]
+pub struct Lists {
+    pub values: Vec<u32>,
+    pub covered: Vec<u8>,
+}
+
+/// Many lookups as a set: both lists, of which the content before is given, as they are afterwards; or
+/// the first question that got 'no', and they are as they were.
+pub fn lookups(slot: &[u8], groups: &[u8], frames: &[u16], before: &Lists) -> Result<Lists, No> {
+    let pairs = groups.len();
+    ask([
+        (1, 0, slot.len() >= 768),
+        (1, 0, frames.len() >= pairs),
+        (1, 0, before.values.len() >= pairs),
+        (1, 0, before.covered.len() >= pairs),
+    ])?;
+    let contents = read(slot)?;
+    ask([(26, 0, pairs <= MOST_PAIRS)])?;
+    ask((0..pairs).map(|index| (7, index, groups[index] <= 7)))?;
+    let mut after = before.clone();
+    after.values[..pairs].fill(0);
+    after.covered[..pairs].fill(0);
+    for row in &contents.rows {
+        for pair in (0..pairs).filter(|i| row.contains(groups[*i], u32::from(frames[*i]))) {
+            after.values[pair] = row.value;
+            after.covered[pair] = 1;
+        }
+    }
+    Ok(after)
 }
 
 /// Holds a slot to a log, frame by frame: each frame of each group is asked which records contain one
@@ -1363,6 +1398,70 @@ mod tests {
             assert_eq!([held(&[0; 767]), held(&[0; 768])], [1, 25]);
         }
         assert_eq!(check(&[0], 4096, &[0; 768]).unwrap_err().question, 4);
+    }
+
+    /// The eight groups of log G's four rows for one frame, and one frame after the other of group 0.
+    #[test]
+    fn lookups_of_g() {
+        let rows = [(0, 0, 1, 100), (0, 2, 6, 242), (0, 9, 10, 50), (1, 0, 0, 7)];
+        let g = slot(0, 11_280, &rows);
+        let before = Lists {
+            values: (900..970).collect(),
+            covered: (100..170).collect(),
+        };
+        let groups = [0, 1, 2, 3, 4, 5, 6, 7];
+        for (frame, values, covered) in [(0, [100, 7], [1, 1]), (6, [242, 0], [1, 0])] {
+            let after = lookups(&g, &groups, &[frame; 8], &before).unwrap();
+            assert_eq!(after.values[..2], values);
+            assert_eq!(after.covered[..2], covered);
+            assert_eq!(
+                (&after.values[2..8], &after.covered[2..8]),
+                (&[0; 6][..], &[0; 6][..])
+            );
+            assert_eq!(after.values[8..], before.values[8..]);
+            assert_eq!(after.covered[8..], before.covered[8..]);
+        }
+        let frames: Vec<u16> = (0..12).collect();
+        let after = lookups(&g, &[0; 12], &frames, &before).unwrap();
+        let expected = [100, 100, 242, 242, 242, 242, 242, 0, 0, 50, 50, 0];
+        assert_eq!(after.values[..12], expected);
+        assert_eq!(
+            after.covered[..12],
+            expected.map(|value| u8::from(value > 0))
+        );
+    }
+
+    /// The questions of many lookups in their order, and that nothing is asked of pairs that are not
+    /// there.
+    #[test]
+    fn lookups_refused() {
+        let lists = |values, covered| Lists {
+            values: vec![9; values],
+            covered: vec![9; covered],
+        };
+        let g = slot(0, 0, &[(0, 0, 1, 100)]);
+        let damaged = [&g[..767], &[1]].concat();
+        let asked = |slot: &[u8], groups: &[u8], frames, values, covered| {
+            let outcome = lookups(slot, groups, &vec![0; frames], &lists(values, covered));
+            outcome.map_or_else(|no| (no.question, no.index), |_| (0, 0))
+        };
+        let wrong = [8; 65];
+        for (frames, values, covered) in [(64, 65, 65), (65, 64, 65), (65, 65, 64)] {
+            assert_eq!(asked(&damaged, &wrong, frames, values, covered), (1, 0));
+        }
+        assert_eq!(asked(&damaged[..767], &[], 0, 0, 0), (1, 0));
+        assert_eq!(asked(&damaged, &wrong, 65, 65, 65), (17, 0));
+        assert_eq!(asked(&damaged, &[], 0, 0, 0), (17, 0));
+        assert_eq!(asked(&g, &[], 0, 0, 0), (0, 0));
+        assert_eq!(asked(&g, &wrong, 65, 65, 65), (26, 0));
+        assert_eq!(asked(&g, &[0; 65], 70, 70, 70), (26, 0));
+        assert_eq!(asked(&g, &wrong[..64], 64, 64, 64), (7, 0));
+        let mut groups = [7; 64];
+        assert_eq!(asked(&g, &groups, 64, 64, 64), (0, 0));
+        for index in (0..64).rev() {
+            groups[index] = 255;
+            assert_eq!(asked(&g, &groups, 64, 64, 64), (7, index));
+        }
     }
 
     /// Both headers; an error under that of windows is asked of after the rows.
