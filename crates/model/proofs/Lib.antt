@@ -6,3 +6,4 @@ pub mod WindowCases
 pub mod TwinCases
 pub mod OrderCases
 pub mod WidthCases
+pub mod LookupCases

@@ -50,3 +50,4 @@ pub mod RefutedTwins
 pub mod RefutedOrder
 pub mod RefutedCheck
 pub mod RefutedMemory
+pub mod RefutedLookups
