@@ -3,6 +3,7 @@
 use common::eight;
 use common::is_width;
 use common::no;
+use common::then;
 use compare::Compared;
 use model::Asked;
 use model::BY_BOUND;
@@ -11,13 +12,13 @@ use model::MOST_SEGMENTS;
 use model::SLOT_LENGTH;
 ghost use mathlib.Core.Path.{_≡_};
 ghost use mathlib.Core.Bool.{true, cond};
-ghost use mathlib.Core.List.{List, [], _∷_, _++_};
+ghost use mathlib.Core.List.{[], _∷_};
 ghost use Prim.Native.Nat.{_≤_};
 ghost use lib.Dec.{eqb};
 ghost use lib.ListN.{length};
 ghost use Rattle.model.specs.Log.{records, greatestKind, value};
 ghost use Rattle.model.specs.Slot.{byBound, slotKind, slotError, slotRows};
-ghost use Rattle.model.specs.Questions.{Question, ask, outcome, marked, logQuestions, slotQuestions};
+ghost use Rattle.model.specs.Questions.{ask, outcome, marked, logQuestions, slotQuestions};
 ghost use Rattle.model.specs.Calls.{askedCase};
 ghost use Rattle.model.specs.Check.{againstQuestions, boundedQuestions, checkOutcome};
 ghost use Rattle.model.specs.Demands.{AllPass, CheckPromise};
@@ -80,16 +81,6 @@ fn ask_against(log: &[u8], width: u16, slot: &[u8]) -> Asked
     );
     let found = compare::with_segments(slot, &groups, &firsts, &lasts, &values, count);
     ask_found(kind, eight(slot, 4), found)
-}
-
-// What two lists of questions answer, one behind the other.
-fn then(first: Asked, second: Asked) -> Asked
-    ensures { λ r. ⌜ ((ps qs : List Question) → askedCase first ≡ outcome ps tt → askedCase second ≡ outcome qs tt → askedCase r ≡ outcome (ps ++ qs) tt) ⌝ }
-{
-    match first {
-        Asked::Refused(r) => Asked::Refused(r),
-        Asked::Passed => second,
-    }
 }
 
 // Asks whether a slot agrees with its log, by the values of a memory of so many frames.

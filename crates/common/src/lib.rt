@@ -1,5 +1,5 @@
-// What several crates need: numbers of several bytes, least byte first, the place of a slot's row, a question's 'no', whether a
-// width is known, and the slot and the rows in which nothing stands.
+// What several crates need: numbers of several bytes, least byte first, the place of a slot's row, a question's 'no', questions behind
+// others, whether a width is known, and the slot and the rows in which nothing stands.
 use model::Asked;
 use model::MOST_ROWS;
 use model::MOST_WIDTH;
@@ -7,12 +7,13 @@ use model::Refusal;
 use model::Row;
 use model::SLOT_LENGTH;
 ghost use mathlib.Core.Path.{_≡_};
-ghost use mathlib.Core.List.{[]};
+ghost use mathlib.Core.List.{List, [], _++_};
 ghost use Prim.Native.Nat.{_+_, _%_, _≤_};
 ghost use lib.ListN.{length, replicate};
 ghost use Rattle.model.specs.Common.{numberAt};
 ghost use Rattle.model.specs.Slot.{rowPlace};
-ghost use Rattle.model.specs.Questions.{widthKnown};
+ghost use Rattle.model.specs.Questions.{Question, outcome, widthKnown};
+ghost use Rattle.model.specs.Calls.{askedCase};
 ghost use Rattle.model.specs.Arrays.{rowArray};
 
 // A byte, as wide as a count or a place.
@@ -65,6 +66,16 @@ pub fn place(i: usize) -> usize
     ensures { λ r. ⌜ r ≡ rowPlace i ⌝ }
 {
     12 + 11 * i
+}
+
+// What two lists of questions answer, one behind the other.
+pub fn then(first: Asked, second: Asked) -> Asked
+    ensures { λ r. ⌜ ((ps qs : List Question) → askedCase first ≡ outcome ps tt → askedCase second ≡ outcome qs tt → askedCase r ≡ outcome (ps ++ qs) tt) ⌝ }
+{
+    match first {
+        Asked::Refused(r) => Asked::Refused(r),
+        Asked::Passed => second,
+    }
 }
 
 // A question's 'no'.

@@ -1,7 +1,7 @@
 -- The rows of a slot that has passed its questions begin and end in the order of places, so that the first that does not end before a
 -- frame is the only one that can contain it. Assumes nothing.
 use Prim.Native.Nat.{ℕ, zero, suc, _+_, _-_, _*_, _≤_, _<_}
-use mathlib.Core.Bool.{Bool, true, false, _&&_}
+use mathlib.Core.Bool.{true, false, _&&_}
 use mathlib.Core.List.{List}
 use mathlib.Core.Option.{none, some}
 use mathlib.Core.Path.{_≡_, refl, sym, ap, _∙_}
@@ -12,7 +12,7 @@ use lib.ListN.{getD}
 use Rattle.model.specs.Common.{listFrom}
 use Rattle.model.specs.Spans.{Span, holds}
 use Rattle.model.specs.Slot.{slotCount, slotRow, slotRows, valueIn}
-use Rattle.model.specs.Questions.{ask, groupKnown, mostValue, rowKnown, inOrder, rowQuestions, slotQuestions}
+use Rattle.model.specs.Questions.{ask, groupKnown, mostValue, rowKnown, rowQuestions, slotQuestions}
 use Rattle.model.specs.Demands.{AllPass}
 use Rattle.theory.proofs.Tests.{cases, and-true, false-holds, true-holds}
 use Rattle.theory.proofs.Refusals.{all-head, all-tail}

@@ -1,12 +1,7 @@
 -- Rows that end in order, halved: what a row in the middle tells of those before it and behind it. Assumes nothing.
 use Prim.Native.Nat.{ℕ, _+_, _-_, _/_, _≤_, _<_}
-use mathlib.Core.Bool.{true, false}
 use mathlib.Core.List.{List}
-use mathlib.Core.Path.{_≡_}
 use native.Mathlib.Omega.{arith}
-use borrow.Author.Tests.{ltb-true, ltb-false}
-use lib.Dec.{ltb}
-use Rattle.theory.proofs.Tests.{cases}
 use Rattle.lookups.specs.Ends.{endOf, EndInOrder, Reached}
 
 module _ (slot : List ℕ) (count place : ℕ) where

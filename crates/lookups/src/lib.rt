@@ -2,6 +2,7 @@
 // covered or not. Every question is asked before a place is written, so that a refusal leaves both lists as they were. The slot is
 // asked once; its rows are in order once it has passed, and each pair's row is then found by halving.
 use common::no;
+use common::then;
 use common::wide;
 use model::Asked;
 use model::MOST_GROUP;
@@ -9,13 +10,15 @@ use model::MOST_PAIRS;
 use slot::place_of;
 ghost use mathlib.Core.Path.{_≡_};
 ghost use mathlib.Core.Bool.{true};
+ghost use mathlib.Core.List.{[], _∷_};
 ghost use mathlib.Core.Logic.{_↔_};
 ghost use Prim.Native.Nat.{_≤_};
+ghost use lib.Dec.{leb};
 ghost use lib.ListN.{length};
 ghost use Rattle.model.specs.Slot.{slotRows, valueIn};
-ghost use Rattle.model.specs.Questions.{outcome, accepted, each, slotQuestions};
+ghost use Rattle.model.specs.Questions.{ask, outcome, accepted, each, slotQuestions};
 ghost use Rattle.model.specs.Calls.{askedCase};
-ghost use Rattle.model.specs.Lookups.{pairQuestions, lookupsQuestions, lookupsOutcome, valueShown, coveredShown, pairsShown, lookupsValues, lookupsCovered};
+ghost use Rattle.model.specs.Lookups.{mostPairs, pairQuestions, aheadOfGroups, lookupsOutcome, valueShown, coveredShown, pairsShown, lookupsValues, lookupsCovered};
 ghost use Rattle.model.specs.Demands.{AllPass, LookupsPromise};
 ghost use Rattle.lookups.specs.Ends.{EndInOrder, Reached};
 
@@ -31,23 +34,26 @@ fn ask_groups(groups: &[u8]) -> Asked
     Asked::Passed
 }
 
-// All questions, of lists of frames, values and flags with so many places.
-fn ask(slot: &[u8], groups: &[u8], frames: usize, values: usize, covered: usize) -> Asked
-    ensures { λ r. ⌜ askedCase r ≡ lookupsOutcome (now (slot .entry)) (now (groups .entry)) frames values covered ⌝ }
+// Question 26.
+fn ask_count(pairs: usize) -> Asked
+    ensures { λ r. ⌜ askedCase r ≡ outcome (ask 26 0 (leb pairs mostPairs) ∷ []) tt ⌝ }
 {
-    let pairs = groups.len();
+    if pairs > MOST_PAIRS {
+        return no(26, 0);
+    }
+    Asked::Passed
+}
+
+// The questions ahead of 7, of so many pairs and of lists of frames, values and flags with so many places.
+fn ask(slot: &[u8], pairs: usize, frames: usize, values: usize, covered: usize) -> Asked
+    ensures { λ r. ⌜ askedCase r ≡ outcome (aheadOfGroups (now (slot .entry)) pairs frames values covered) tt ⌝ }
+{
     if !((pairs <= frames) & (pairs <= values) & (pairs <= covered)) {
         return no(1, 0);
     }
-    match slot::ask(slot) {
-        Asked::Refused(refusal) => Asked::Refused(refusal),
-        Asked::Passed => {
-            if pairs > MOST_PAIRS {
-                return no(26, 0);
-            }
-            ask_groups(groups)
-        }
-    }
+    let asked = slot::ask(slot);
+    let counted = ask_count(pairs);
+    then(asked, counted)
 }
 
 // What is written for a pair: the value of the row that holds its frame and 1, or 0 and 0 where there is none.
@@ -107,7 +113,8 @@ fn answer(slot: &[u8], groups: &[u8], frames: &[u16], values: &mut [u32], covere
     ensures { λ _. ⌜ now (values .exit) ≡ pairsShown valueShown (now (slot .entry)) (now (groups .entry)) (now (frames .entry)) (now (values .entry)) ⌝ }
     ensures { λ _. ⌜ now (covered .exit) ≡ pairsShown coveredShown (now (slot .entry)) (now (groups .entry)) (now (frames .entry)) (now (covered .entry)) ⌝ }
 {
-    for i in 0..groups.len() {
+    let pairs = groups.len();
+    for i in 0..pairs {
         let shown = look(slot, groups[i], frames[i]);
         values[i] = shown.value;
         covered[i] = shown.covered;
@@ -137,10 +144,18 @@ pub fn look_up(
     ensures flagged { λ _. ⌜ now (covered .exit) ≡ lookupsCovered (now (slot .entry)) (now (groups .entry)) (now (frames .entry)) (now (values .entry)) (now (covered .entry)) ⌝ }
     ensures promise { λ r. ⌜ LookupsPromise (now (slot .entry)) (now (groups .entry)) (now (frames .entry)) (now (values .entry)) (now (covered .entry)) (askedCase r) (now (values .exit)) (now (covered .exit)) ⌝ }
 {
-    let asked = ask(slot, groups, frames.len(), values.len(), covered.len());
-    if !is_passed(asked) {
-        return asked;
+    let asked = ask(
+        slot,
+        groups.len(),
+        frames.len(),
+        values.len(),
+        covered.len(),
+    );
+    let known = ask_groups(groups);
+    let all = then(asked, known);
+    if !is_passed(all) {
+        return all;
     }
     answer(slot, groups, frames, values, covered);
-    asked
+    all
 }

@@ -1,15 +1,15 @@
 -- Many lookups, shown of the definitions: which places hold what afterwards, the ends of rows, and where 1, 26 and 7 stand. The slot is
 -- that of log G with four rows, and others beside it. Assumes nothing.
-use Prim.Native.Nat.{ℕ, _-_}
+use Prim.Native.Nat.{ℕ}
 use mathlib.Core.List.{List, [], _∷_, _++_}
 use mathlib.Core.Path.{_≡_, refl}
-use lib.ListN.{length, replicate, drop}
+use lib.ListN.{length, replicate}
 use Rattle.model.specs.Common.{listFrom, numberAt, bytesOf}
-use Rattle.model.specs.Spans.{Span, meets, holds}
+use Rattle.model.specs.Spans.{meets, holds}
 use Rattle.model.specs.Split.{mostRows}
 use Rattle.model.specs.Slot.{slotLength, byBound, byWindows, rowBytes, rowsBytes, usedBytes, slotBytes, rowPlace, slotMark, slotKind, slotCount, slotError, slotRow, slotRows, valueIn}
 use Rattle.model.specs.Questions.{Outcome, refused, accepted, ask, askRoom, outcome, lent, each, marked, kindKnown, groupKnown, follows, inOrder, rowKnown, rowQuestions, errorKnown, headerMarked, slotQuestions}
-use Rattle.model.specs.Lookups.{pairQuestions, lookupsQuestions, lookupsOutcome, pairFound, valueShown, coveredShown, pairsShown, lookupsList, lookupsValues, lookupsCovered}
+use Rattle.model.specs.Lookups.{pairQuestions, aheadOfGroups, lookupsQuestions, lookupsOutcome, pairFound, valueShown, coveredShown, pairsShown, lookupsList, lookupsValues, lookupsCovered}
 use Rattle.model.proofs.Tail.{walked, tail-walked}
 use Rattle.model.proofs.Cases.{span, rows-G, All}
 
@@ -69,18 +69,18 @@ answered-cases =
 
 abbrev refused-cases : List LookupCase
 refused-cases =
-    -- 7 at the first bad group with its index: the fifth of eight, with another behind it
-    refuses slot-G (0 ∷ 1 ∷ 2 ∷ 3 ∷ 8 ∷ 5 ∷ 255 ∷ 7 ∷ []) (replicate 8 0) (nines 10) (nines 10) 7 4
-    -- 26 ahead of 7
-    ∷ refuses empty-slot (replicate 65 8) (replicate 65 0) (nines 65) (nines 65) 26 0
     -- the slot's ahead of 26, with no pairs too
-    ∷ refuses wrong-slot (replicate 65 8) (replicate 65 0) (nines 65) (nines 65) 11 0
+    refuses wrong-slot (replicate 65 8) (replicate 65 0) (nines 65) (nines 65) 11 0
     ∷ refuses wrong-slot [] [] (nines 2) (nines 2) 11 0
     ∷ refuses (0x50 ∷ []) [] [] (nines 2) (nines 2) 1 0
     -- 1 of each list ahead of the slot's: 65 pairs with 64 places
     ∷ refuses wrong-slot (replicate 65 8) (replicate 64 0) (nines 65) (nines 65) 1 0
     ∷ refuses wrong-slot (replicate 65 8) (replicate 65 0) (nines 64) (nines 65) 1 0
     ∷ refuses wrong-slot (replicate 65 8) (replicate 65 0) (nines 65) (nines 64) 1 0
+    -- 26 ahead of 7
+    ∷ refuses empty-slot (replicate 65 8) (replicate 65 0) (nines 65) (nines 65) 26 0
+    -- 7 at the first bad group with its index: the fifth of eight, with another behind it
+    ∷ refuses slot-G (0 ∷ 1 ∷ 2 ∷ 3 ∷ 8 ∷ 5 ∷ 255 ∷ 7 ∷ []) (replicate 8 0) (nines 10) (nines 10) 7 4
     ∷ []
 
 abbrev Holds : LookupCase → Type 0
@@ -91,8 +91,8 @@ Holds c =
 
 -- Every row of the two tables holds.
 pub lookup-cases : All Holds answered-cases × All Holds refused-cases
-unfolding walked listFrom numberAt bytesOf meets holds slotLength rowBytes rowsBytes usedBytes slotBytes rowPlace slotMark slotKind slotCount slotError slotRow slotRows valueIn ask outcome lent each marked askRoom kindKnown groupKnown mostRows follows inOrder rowKnown rowQuestions errorKnown headerMarked slotQuestions pairQuestions lookupsQuestions lookupsOutcome pairFound valueShown coveredShown pairsShown lookupsList lookupsValues lookupsCovered
+unfolding walked listFrom numberAt bytesOf meets holds slotLength rowBytes rowsBytes usedBytes slotBytes rowPlace slotMark slotKind slotCount slotError slotRow slotRows valueIn ask outcome lent each marked askRoom kindKnown groupKnown mostRows follows inOrder rowKnown rowQuestions errorKnown headerMarked slotQuestions pairQuestions aheadOfGroups lookupsQuestions lookupsOutcome pairFound valueShown coveredShown pairsShown lookupsList lookupsValues lookupsCovered
 lookup-cases = (
-  ((rw tail-walked, rw tail-walked, rw tail-walked), ((rw tail-walked, rw tail-walked, rw tail-walked), ((rw tail-walked, rw tail-walked, rw tail-walked), ((rw tail-walked, rw tail-walked, rw tail-walked), ((rw tail-walked, rw tail-walked, rw tail-walked), tt))))),
-  ((rw tail-walked, rw tail-walked, rw tail-walked), ((rw tail-walked, rw tail-walked, rw tail-walked), ((refl, refl, refl), ((refl, refl, refl), ((refl, refl, refl), ((refl, refl, refl), ((refl, refl, refl), ((refl, refl, refl), tt)))))))),
+  ((rw tail-walked refl, rw tail-walked refl, rw tail-walked refl), ((rw tail-walked refl, rw tail-walked refl, rw tail-walked refl), ((rw tail-walked refl, rw tail-walked refl, rw tail-walked refl), ((rw tail-walked refl, rw tail-walked refl, rw tail-walked refl), ((rw tail-walked refl, rw tail-walked refl, rw tail-walked refl), tt))))),
+  ((refl, refl, refl), ((refl, refl, refl), ((refl, refl, refl), ((refl, refl, refl), ((refl, refl, refl), ((refl, refl, refl), ((rw tail-walked refl, rw tail-walked refl, rw tail-walked refl), ((rw tail-walked refl, rw tail-walked refl, rw tail-walked refl), tt)))))))),
 )

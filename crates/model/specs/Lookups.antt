@@ -16,14 +16,18 @@ mostPairs = 64
 unfoldable pub pairQuestions : List ℕ → ℕ → List Question
 pairQuestions groups i = ask 7 i (groupKnown (getD groups i 0)) ∷ []
 
--- 1 of each list, as long as the pairs are many; the slot's; 26; then 7, pair by pair. There are as many pairs as groups.
+-- those ahead of 7, of so many pairs: 1 of each list, which is at least as long; the slot's; 26
+unfoldable pub aheadOfGroups : List ℕ → ℕ → ℕ → ℕ → ℕ → List Question
+aheadOfGroups slot pairs frames values covered =
+    askRoom pairs frames
+    ∷ askRoom pairs values
+    ∷ askRoom pairs covered
+    ∷ (slotQuestions slot ++ (ask 26 0 (leb pairs mostPairs) ∷ []))
+
+-- and all, with 7 pair by pair; there are as many pairs as groups
 unfoldable pub lookupsQuestions : List ℕ → List ℕ → ℕ → ℕ → ℕ → List Question
 lookupsQuestions slot groups frames values covered =
-    askRoom (length groups) frames
-    ∷ askRoom (length groups) values
-    ∷ askRoom (length groups) covered
-    ∷ (slotQuestions slot
-    ++ (ask 26 0 (leb (length groups) mostPairs) ∷ each (pairQuestions groups) 0 (length groups)))
+    aheadOfGroups slot (length groups) frames values covered ++ each (pairQuestions groups) 0 (length groups)
 
 unfoldable pub lookupsOutcome : List ℕ → List ℕ → ℕ → ℕ → ℕ → Outcome (Unit {0})
 lookupsOutcome slot groups frames values covered = outcome (lookupsQuestions slot groups frames values covered) tt

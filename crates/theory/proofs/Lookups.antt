@@ -5,21 +5,22 @@ use mathlib.Core.Bool.{true, false}
 use mathlib.Core.List.{List, [], _∷_, _++_}
 use mathlib.Core.Logic.{_↔_}
 use mathlib.Core.Option.{Option}
-use mathlib.Core.Path.{_≡_, refl, sym, ap, _∙_, subst}
+use mathlib.Core.Path.{_≡_, sym, ap, _∙_, subst}
 use native.Mathlib.Omega.{arith}
 use borrow.Author.Tests.{le-leb, lt-leb, leb-true, leb-false, eqb-true, eqb-false}
 use lib.Dec.{leb, eqb}
-use lib.ListN.{length, getD, drop, length-append, length-drop, List·getD-append}
+use lib.ListN.{length, getD, drop, List·getD-append}
 use lib.Seq.{drop-append-seam}
 use Rattle.model.specs.Common.{listFrom}
 use Rattle.model.specs.Questions.{Question, Outcome, refused, accepted, ask, askRoom, outcome, each, groupKnown, slotQuestions, lookupQuestions}
 use Rattle.model.specs.Calls.{readOutcome, lookupOutcome}
-use Rattle.model.specs.Lookups.{mostPairs, pairQuestions, lookupsQuestions, lookupsOutcome, pairFound, valueShown, coveredShown, pairsShown, lookupsList, lookupsValues, lookupsCovered}
-use Rattle.model.specs.Demands.{AllPass, LongEnough, AnsweredTo, AnsweredInto, LookupsPromise, singly}
+use Rattle.model.specs.Lookups.{mostPairs, pairQuestions, aheadOfGroups, lookupsQuestions, lookupsOutcome, pairFound, valueShown, coveredShown, pairsShown, lookupsList, lookupsValues, lookupsCovered}
+use Rattle.model.specs.Demands.{AllPass, AnsweredTo, AnsweredInto, LookupsPromise, singly}
 use Rattle.theory.proofs.Tests.{cases, true≢false}
 use Rattle.theory.proofs.Refusals.{accepted≢refused, all-nil, all-cons, all-head, all-tail, all-append, all-left, all-right, all-each, all-at, outcome-accepted, all-outcome, outcome-behind, all-lent, refused-lent, refused-first, refused-same}
 use Rattle.theory.proofs.SlotLaws.{length-listFrom}
 use Rattle.theory.proofs.Lists.{listFrom-at}
+use Rattle.theory.proofs.Copying.{copied, copied-length}
 use Rattle.theory.proofs.Asking.{answer}
 
 -- ---- the first bad group
@@ -70,72 +71,101 @@ module _ (groups : List ℕ) where
 
 -- ---- the questions in parts
 
-module _ (slot groups : List ℕ) (frames values covered : ℕ) where
+-- those ahead of 7, of so many pairs
+module _ (slot : List ℕ) (pairs frames values covered : ℕ) where
   -- 1 of each list
   abbrev rooms : List Question
-  rooms = askRoom (length groups) frames ∷ askRoom (length groups) values ∷ askRoom (length groups) covered ∷ []
+  rooms = askRoom pairs frames ∷ askRoom pairs values ∷ askRoom pairs covered ∷ []
 
-  abbrev pairs : List Question
-  pairs = each (pairQuestions groups) 0 (length groups)
+  abbrev counted : List Question
+  counted = ask 26 0 (leb pairs mostPairs) ∷ []
 
   abbrev pub Long : Type 0
-  Long = (length groups ≤ frames) × (length groups ≤ values) × (length groups ≤ covered)
+  Long = (pairs ≤ frames) × (pairs ≤ values) × (pairs ≤ covered)
 
-  abbrev says : Outcome (Unit {0})
-  says = lookupsOutcome slot groups frames values covered
+  abbrev ahead : List Question
+  ahead = aheadOfGroups slot pairs frames values covered
 
   rooms-passed : Long → AllPass rooms
   unfolding askRoom ask
   rooms-passed (a, b, c) = all-cons _ _ (le-leb _ _ a) (all-cons _ _ (le-leb _ _ b) (all-cons _ _ (le-leb _ _ c) all-nil))
 
-  pub too-short : (Long → ⊥) → says ≡ refused 1 0
-  unfolding lookupsOutcome lookupsQuestions outcome askRoom ask
+  pub too-short : (Long → ⊥) → answer ahead ≡ refused 1 0
+  unfolding aheadOfGroups outcome askRoom ask
   too-short short =
-      cases (leb (length groups) frames)
+      cases (leb pairs frames)
       (λ a.
       rw a
-      (cases (leb (length groups) values)
+      (cases (leb pairs values)
       (λ b.
       rw b
-      (cases (leb (length groups) covered)
+      (cases (leb pairs covered)
       (λ c. absurd (short (leb-true _ _ a, leb-true _ _ b, leb-true _ _ c)))
       (λ c. rw c)))
       (λ b. rw b)))
       (λ a. rw a)
 
-  -- behind them come the slot's
-  behind-rooms : Long → says ≡ answer (slotQuestions slot ++ (ask 26 0 (leb (length groups) mostPairs) ∷ pairs))
-  unfolding lookupsOutcome lookupsQuestions
+  -- behind them come the slot's, and 26
+  pub behind-rooms : Long → answer ahead ≡ answer (slotQuestions slot ++ counted)
+  unfolding aheadOfGroups
   behind-rooms long = outcome-behind rooms _ tt (rooms-passed long)
 
-  pub as-read : Long → (n i : ℕ) → answer (slotQuestions slot) ≡ refused n i → says ≡ refused n i
+  pub as-read : Long → (n i : ℕ) → answer (slotQuestions slot) ≡ refused n i → answer ahead ≡ refused n i
   as-read long n i e = behind-rooms long ∙ refused-first (slotQuestions slot) _ tt tt n i e
 
-  module _ (long : Long) (read : AllPass (slotQuestions slot)) where
-    behind-slot : says ≡ answer (ask 26 0 (leb (length groups) mostPairs) ∷ pairs)
-    behind-slot = behind-rooms long ∙ outcome-behind (slotQuestions slot) _ tt read
+  pub too-many : Long → AllPass (slotQuestions slot) → mostPairs < pairs → answer ahead ≡ refused 26 0
+  unfolding outcome ask
+  too-many long read many =
+      behind-rooms long ∙ outcome-behind (slotQuestions slot) _ tt read ∙ rw (lt-leb pairs mostPairs many)
 
-    pub too-many : mostPairs < length groups → says ≡ refused 26 0
-    unfolding outcome ask
-    too-many many = behind-slot ∙ rw (lt-leb (length groups) mostPairs many)
+  -- all of them are passed exactly if no list is too short, the slot passes and there are at most 64
+  pub ahead-passed : Long → AllPass (slotQuestions slot) → pairs ≤ mostPairs → AllPass ahead
+  unfolding aheadOfGroups ask
+  ahead-passed long read few =
+      all-append rooms _ (rooms-passed long) (all-append (slotQuestions slot) counted read (all-cons _ _ (le-leb pairs mostPairs few) all-nil))
 
-    pub behind-count : length groups ≤ mostPairs → says ≡ answer pairs
-    unfolding outcome ask
-    behind-count few = behind-slot ∙ rw (le-leb (length groups) mostPairs few)
+  pub passed-ahead : AllPass ahead → Long × AllPass (slotQuestions slot) × (pairs ≤ mostPairs)
+  unfolding aheadOfGroups askRoom ask
+  passed-ahead all =
+      let room = all-left rooms _ all in
+      let rest = all-right rooms _ all in (
+        (leb-true _ _ (all-head _ _ room), leb-true _ _ (all-head _ _ (all-tail _ _ room)), leb-true _ _ (all-head _ _ (all-tail _ _ (all-tail _ _ room)))),
+        all-left (slotQuestions slot) counted rest,
+        leb-true _ _ (all-head _ _ (all-right (slotQuestions slot) counted rest)),
+      )
 
-  -- all that is asked, passed
+module _ (slot groups : List ℕ) (frames values covered : ℕ) where
+  -- those ahead of 7, and 7 pair by pair
+  abbrev before : List Question
+  before = aheadOfGroups slot (length groups) frames values covered
+
+  abbrev pub each-pair : List Question
+  each-pair = each (pairQuestions groups) 0 (length groups)
+
+  abbrev says : Outcome (Unit {0})
+  says = lookupsOutcome slot groups frames values covered
+
+  -- a refusal of those ahead is the call's
+  refused-before : (n i : ℕ) → answer before ≡ refused n i → says ≡ refused n i
+  unfolding lookupsOutcome lookupsQuestions
+  refused-before n i e = refused-first before each-pair tt tt n i e
+
+  -- and where they are passed, 7 decides
+  behind-before : AllPass before → says ≡ answer each-pair
+  unfolding lookupsOutcome lookupsQuestions
+  behind-before all = outcome-behind before each-pair tt all
+
   pub passed : says ≡ accepted tt
-      → Long × AllPass (slotQuestions slot) × (length groups ≤ mostPairs) × ((i : ℕ) → i < length groups → Known groups i)
-  unfolding lookupsOutcome lookupsQuestions askRoom ask pairQuestions
+      → Long slot (length groups) frames values covered × AllPass (slotQuestions slot) × (length groups ≤ mostPairs)
+      × ((i : ℕ) → i < length groups → Known groups i)
+  unfolding lookupsOutcome lookupsQuestions ask pairQuestions
   passed e =
       let all = outcome-accepted (lookupsQuestions slot groups frames values covered) tt tt e .0 in
-      let room = all-left rooms _ all in
-      let rest = all-right rooms _ all in
-      let counted = all-right (slotQuestions slot) _ rest in (
-        (leb-true _ _ (all-head _ _ room), leb-true _ _ (all-head _ _ (all-tail _ _ room)), leb-true _ _ (all-head _ _ (all-tail _ _ (all-tail _ _ room)))),
-        all-left (slotQuestions slot) _ rest,
-        leb-true _ _ (all-head _ _ counted),
-        λ i lt. all-head _ _ (all-at (pairQuestions groups) 0 (length groups) (all-tail _ _ counted) i (omega arith) (omega arith)),
+      let (long, read, few) = passed-ahead slot (length groups) frames values covered (all-left before each-pair all) in (
+        long,
+        read,
+        few,
+        λ i lt. all-head _ _ (all-at (pairQuestions groups) 0 (length groups) (all-right before each-pair all) i (omega arith) (omega arith)),
       )
 
 module _ (slot groups frames : List ℕ) where
@@ -163,7 +193,7 @@ module _ (slot groups frames : List ℕ) where
     said = lookupsOutcome slot groups (length frames) values covered
 
     abbrev LongOf : Type 0
-    LongOf = Long slot groups (length frames) values covered
+    LongOf = Long slot (length groups) (length frames) values covered
 
     pub exactly : (said ≡ accepted tt)
         ↔ (LongOf × AllPass (slotQuestions slot) × (length groups ≤ mostPairs) × AnsweredTo (length groups) slot groups frames)
@@ -172,8 +202,8 @@ module _ (slot groups frames : List ℕ) where
       λ e. let (long, read, few, known) = passed slot groups (length frames) values covered e in
           (long, read, few, λ i lt. (pairFound slot groups frames i, single-known read i (known i lt))),
       λ (long, read, few, answered).
-          behind-count slot groups (length frames) values covered long read few
-          ∙ all-outcome (each (pairQuestions groups) 0 (length groups)) tt
+          behind-before slot groups (length frames) values covered (ahead-passed slot (length groups) (length frames) values covered long read few)
+          ∙ all-outcome (each-pair slot groups (length frames) values covered) tt
           (all-each (pairQuestions groups) 0 (length groups) (λ i low high.
           all-cons _ _ (answered-known i _ (answered i (omega arith) .1)) all-nil)),
     )
@@ -181,7 +211,7 @@ module _ (slot groups frames : List ℕ) where
     pub first-refused : LongOf → AllPass (slotQuestions slot) → length groups ≤ mostPairs → (i : ℕ) → (said ≡ refused 7 i)
         ↔ ((i < length groups) × (singly slot groups frames i ≡ refused 7 0) × AnsweredTo i slot groups frames)
     first-refused long read few i =
-        let same = behind-count slot groups (length frames) values covered long read few in (
+        let same = behind-before slot groups (length frames) values covered (ahead-passed slot (length groups) (length frames) values covered long read few) in (
           λ e.
               let (low, high, bad, before) = first-bad groups 0 (length groups) i .0 (sym same ∙ e) in
               (omega arith, single-unknown read i bad, λ j lt. (pairFound slot groups frames j, single-known read j (before j (omega arith) lt))),
@@ -197,33 +227,38 @@ module _ (slot groups frames : List ℕ) where
 
     -- ---- a list
 
-    -- as long as the pairs are many
+    -- which is as long as the pairs are many
     module _ (shown : Option ℕ → ℕ) (list : List ℕ) (fits : LongOf → length groups ≤ length list) where
       abbrev after : List ℕ
       after = lookupsList shown slot groups frames values covered list
 
-      abbrev given : List ℕ
-      given = listFrom 0 (length groups) (λ i. shown (pairFound slot groups frames i))
+      -- what is shown of each pair
+      abbrev given : ℕ → ℕ
+      given i = shown (pairFound slot groups frames i)
 
-      many : length given ≡ length groups
-      many = length-listFrom 0 (length groups) _
+      many : length (listFrom 0 (length groups) given) ≡ length groups
+      many = length-listFrom 0 (length groups) given
 
-      left : said ≡ accepted tt → after ≡ given ++ drop (length groups) list
-      unfolding lookupsOutcome lookupsList pairsShown
+      left : said ≡ accepted tt → after ≡ copied given list (length groups)
+      unfolding lookupsOutcome lookupsList pairsShown copied
       left e = all-lent _ _ _ (outcome-accepted (lookupsQuestions slot groups (length frames) values covered) tt tt e .0)
 
       pub answered-into : AnsweredInto shown slot groups frames list said after
-      unfolding lookupsOutcome lookupsList
+      unfolding lookupsOutcome lookupsList copied
       answered-into =
           record {
             answered = λ e i lt. let (long, read, few, known) = passed slot groups (length frames) values covered e in (
               pairFound slot groups frames i,
               single-known read i (known i lt),
-              rw (left e) (List·getD-append given (drop (length groups) list) 0 i (omega (arith, many, lt)) ∙ listFrom-at _ 0 0 (length groups) i lt ∙ ap (λ k. shown (pairFound slot groups frames k)) (omega arith)),
+              rw (left e)
+                  (List·getD-append (listFrom 0 (length groups) given) (drop (length groups) list) 0 i (omega (arith, many, lt))
+                  ∙ listFrom-at given 0 0 (length groups) i lt ∙ ap given (omega arith)),
             );
             later = λ e. let (long, read, few, known) = passed slot groups (length frames) values covered e in (
-              rw (left e) (omega (arith, length-append given (drop (length groups) list), length-drop (length groups) list, many, fits long)),
-              rw (left e) (ap (λ k. drop k (given ++ drop (length groups) list)) (sym many) ∙ drop-append-seam given (drop (length groups) list)),
+              rw (left e) (copied-length given list (length groups) (fits long)),
+              rw (left e)
+                  (ap (λ k. drop k (copied given list (length groups))) (sym many)
+                  ∙ drop-append-seam (listFrom 0 (length groups) given) (drop (length groups) list)),
             );
             untouched = λ n i e. refused-lent (lookupsQuestions slot groups (length frames) values covered) tt n i _ _ e;
           }
@@ -234,14 +269,17 @@ pub lookups-promise : (slot groups frames values covered : List ℕ)
     (lookupsValues slot groups frames values covered) (lookupsCovered slot groups frames values covered)
 unfolding readOutcome lookupsValues lookupsCovered
 lookups-promise slot groups frames values covered =
+    let n = length groups in
     let v = length values in
     let c = length covered in
     record {
       intoValues = answered-into slot groups frames v c valueShown values (λ long. long .1);
       intoCovered = answered-into slot groups frames v c coveredShown covered (λ long. long .2);
       exactly = exactly slot groups frames v c;
-      tooShort = too-short slot groups (length frames) v c;
-      asRead = λ long n i e. as-read slot groups (length frames) v c long n i (refused-same (slotQuestions slot) _ tt n i e);
-      tooMany = λ long read. too-many slot groups (length frames) v c long read;
+      tooShort = λ short. refused-before slot groups (length frames) v c 1 0 (too-short slot n (length frames) v c short);
+      asRead = λ long number index e.
+          refused-before slot groups (length frames) v c number index
+          (as-read slot n (length frames) v c long number index (refused-same (slotQuestions slot) _ tt number index e));
+      tooMany = λ long read many. refused-before slot groups (length frames) v c 26 0 (too-many slot n (length frames) v c long read many);
       firstBad = first-refused slot groups frames v c;
     }

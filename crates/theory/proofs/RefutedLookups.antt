@@ -1,7 +1,6 @@
 -- Wrong answers of many lookups that the promise rejects, each by the clause that its comment names. The slot is that of log G with four
 -- rows, whose frame 0 has 100 in group 0, 7 in group 1 and nothing in group 2. Assumes nothing.
-use Prim.Native.Nat.{ℕ, _≤_}
-use mathlib.Core.Bool.{true, false}
+use Prim.Native.Nat.{ℕ}
 use mathlib.Core.List.{List, [], _∷_}
 use mathlib.Core.Option.{Option, none, some}
 use mathlib.Core.Path.{_≡_, refl, sym, ap, _∙_}
@@ -10,7 +9,7 @@ use lib.ListN.{length, getD, replicate}
 use Rattle.model.specs.Common.{listFrom, numberAt, bytesOf}
 use Rattle.model.specs.Spans.{meets, holds}
 use Rattle.model.specs.Split.{mostRows}
-use Rattle.model.specs.Slot.{slotLength, byBound, rowBytes, rowsBytes, usedBytes, slotBytes, rowPlace, slotMark, slotKind, slotCount, slotError, slotRow, slotRows, valueIn}
+use Rattle.model.specs.Slot.{slotLength, rowBytes, rowsBytes, usedBytes, slotBytes, rowPlace, slotMark, slotKind, slotCount, slotError, slotRow, slotRows, valueIn}
 use Rattle.model.specs.Questions.{Outcome, refused, accepted, ask, askRoom, outcome, each, marked, kindKnown, groupKnown, follows, inOrder, rowKnown, rowQuestions, errorKnown, headerMarked, slotQuestions, lookupQuestions}
 use Rattle.model.specs.Calls.{readOutcome, lookupOutcome}
 use Rattle.model.specs.Lookups.{valueShown, coveredShown}

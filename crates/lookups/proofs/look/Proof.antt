@@ -7,7 +7,6 @@ use mathlib.Core.Path.{_≡_, sym, ap, _∙_}
 use native.Mathlib.Omega.{arith}
 use lib.ListN.{length, getD}
 use Rattle.model.specs.Slot.{slotCount, slotRow, slotRows, valueIn}
-use Rattle.model.specs.Questions.{slotQuestions}
 use Rattle.model.specs.Calls.{rowOfSpan}
 use Rattle.model.specs.Lookups.{valueShown, coveredShown}
 use Rattle.theory.proofs.Refusals.{all-outcome}

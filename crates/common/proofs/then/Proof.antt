@@ -1,10 +1,10 @@
--- `checker::then` meets its contract: a 'no' of the first comes ahead of what the second answers. Assumes nothing.
+-- `common::then` meets its contract: a 'no' of the first comes ahead of what the second answers. Assumes nothing.
 use mathlib.Core.Path.{sym, ap, _∙_}
 use borrow.Author.Needs.{needs}
 use Rattle.model.specs.Calls.{askedCase}
 use Rattle.theory.proofs.Refusals.{refused-first, passed-first}
-use Rattle.checker.proofs.then.Statement.{statement}
-use Rattle.checker.proofs.then.Tie as tie
+use Rattle.common.proofs.then.Statement.{statement}
+use Rattle.common.proofs.then.Tie as tie
 
 enum-known-first : tie.Need-enum-known-first
 enum-known-first c = search needs
