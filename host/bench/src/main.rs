@@ -894,7 +894,7 @@ fn lookups_line(report: &mut Report, by: &str, slot: &[u8; 768], pairs: &Pairs) 
     report.line(
         &format!("lookups{by}, {name}"),
         &format!("{:>4} {count:>5} {found:>7}", slot[3]),
-        &mut [&mut library, &mut row_by_row, &mut halving, &mut one_by_one],
+        &mut [&mut library, &mut halving, &mut row_by_row, &mut one_by_one],
     );
 }
 
