@@ -16,6 +16,7 @@ use Rattle.model.specs.Slot.{slotLength, byBound, byWindows, rowBytes, rowsByte
 use Rattle.model.specs.Questions.{Question, Outcome, refused, accepted, ask, askRoom, outcome, each, marked, kindKnown, groupKnown, spanQuestions, mostSegments, follows, inOrder, rowKnown, rowQuestions, errorKnown, headerMarked}
 use Rattle.model.specs.Questions.{writeQuestions, segmentsQuestions, orderQuestions, logQuestions, queryQuestions, ruleQuestion, ruledOrder, ruledQuestions, slotQuestions, lookupQuestions}
 use Rattle.model.specs.Calls.{Counts, Header, writeOutcome, writtenBuffer, segmentsOutcome, filledList, queryOutcome, querySlot, ruledOutcome, ruledSlot, beatQuery, boundOf, letterQuestions, byLetterQuestions, letterOutcome, letterSlot, readOutcome, readRows, readListQuestions, readListOutcome, readList, stepOutcome, stepNext, lookupOutcome}
+use Rattle.model.specs.Lookups.{aheadOfGroups, lookupsQuestions, lookupsOutcome, lookupsValues, lookupsCovered}
 use Rattle.model.specs.Demands.{FirstNo, Asks, Storable}
 use Rattle.model.specs.declared.Bound.the-variants.{Rows}
 use Rattle.model.specs.declared.Segment.{Segment}
@@ -94,8 +95,9 @@ first-noes : (outcome (writeQuestions wrong-record 9) (tt {0}) ≡ refused 7 0)
     × (outcome (slotQuestions (slotBytes 0x43 0 0 [])) (tt {0}) ≡ refused 11 0)
     × (outcome (slotQuestions (slotBytes byWindows 0 11280 rows-G)) (tt {0}) ≡ refused 17 0)
     × (outcome (ruledQuestions (beatQuery 0 0 1) [] 768) (tt {0}) ≡ refused 18 0)
-unfolding walked outcome ask askRoom writeQuestions spanQuestions groupKnown recordLength segmentsQuestions mostSegments kindKnown logQuestions queryQuestions orderQuestions slotLength byLetterQuestions boundOf letterQuestions slotQuestions lookupQuestions readListQuestions marked slotBytes usedBytes rowsBytes rowBytes bytesOf slotMark slotKind slotCount slotError slotRow rowPlace numberAt each rowQuestions rowKnown inOrder follows headerMarked errorKnown mostRows ruledQuestions ruledOrder ruleQuestion beatQuery
-first-noes = (refl, refl, refl, refl, refl, rw tail-walked, refl, refl, rw tail-walked, refl)
+    × (outcome (lookupsQuestions zero-slot (8 ∷ []) 1 9 9) (tt {0}) ≡ refused 11 0)
+unfolding walked outcome ask askRoom writeQuestions spanQuestions groupKnown recordLength segmentsQuestions mostSegments kindKnown logQuestions queryQuestions orderQuestions slotLength byLetterQuestions boundOf letterQuestions slotQuestions lookupQuestions readListQuestions marked slotBytes usedBytes rowsBytes rowBytes bytesOf slotMark slotKind slotCount slotError slotRow rowPlace numberAt each rowQuestions rowKnown inOrder follows headerMarked errorKnown mostRows ruledQuestions ruledOrder ruleQuestion beatQuery aheadOfGroups lookupsQuestions
+first-noes = (refl, refl, refl, refl, refl, rw tail-walked, refl, refl, rw tail-walked, refl, refl)
 
 -- accepted in spite of a 'no' (acceptance), refused by a later 'no' (refusal), refused and written all the same (refusal)
 pub accepted-in-spite : Asks (writeQuestions wrong-record 9) (accepted (tt {0})) nines nines → ⊥
@@ -175,6 +177,16 @@ pub wrong-lookup : (value : Option ℕ) → lookupOutcome (slotBytes byBound 0 1
 wrong-lookup value e =
     let (says, kept) = asks-refused _ _ _ 7 0 (first-noes .5) _ (demand1 .lookup (slotBytes byBound 0 11280 rows-G) 8 0) in
     accepted≢refused (sym e ∙ says)
+
+pub wrong-lookups : (lookupsOutcome zero-slot (8 ∷ []) 1 9 9 ≡ accepted tt → ⊥)
+    × (lookupsValues zero-slot (8 ∷ []) (0 ∷ []) nines nines ≡ 0 ∷ [] → ⊥)
+    × (lookupsCovered zero-slot (8 ∷ []) (0 ∷ []) nines nines ≡ 0 ∷ [] → ⊥)
+wrong-lookups =
+    let (says, kept) = asks-refused _ _ _ 11 0 (first-noes .10) _ (demand1 .lookups zero-slot (8 ∷ []) (0 ∷ []) nines nines) in (
+      λ e. accepted≢refused (sym e ∙ says),
+      λ e. omega (arith, ap length (sym e ∙ ap (λ (l : List ℕ × List ℕ). l .0) kept)),
+      λ e. omega (arith, ap length (sym e ∙ ap (λ (l : List ℕ × List ℕ). l .1) kept)),
+    )
 
 -- ---- slots
 

@@ -156,3 +156,12 @@ pub index-behind-the-pairs : (values covered : List ℕ) → Two 0 8 (refused 7 
 index-behind-the-pairs values covered p =
     let (inside, refuses, before) = p .firstBad (omega arith, omega arith, omega arith) read (omega arith) 2 .0 refl in
     omega (arith, inside)
+
+-- another number (firstBad)
+pub another-number : (values covered : List ℕ) → Two 0 8 (refused 9 1) values covered → ⊥
+another-number values covered p =
+    let due = p .firstBad (omega arith, omega arith, omega arith) read (omega arith) 1 .1 (omega arith, single .2, λ j lt. (some 100, first j (omega (arith, lt)))) in
+    omega (arith, refused-number due .0)
+  where
+    first : (j : ℕ) → j ≡ 0 → lookupOutcome slot-G (getD (0 ∷ 8 ∷ []) j 0) (getD (0 ∷ 0 ∷ []) j 0) ≡ accepted (some 100)
+    first j none-before = ap (λ k. lookupOutcome slot-G (getD (0 ∷ 8 ∷ []) k 0) (getD (0 ∷ 0 ∷ []) k 0)) none-before ∙ single .0
