@@ -1,2 +1,2 @@
--- What the C interface answers.
-pub mod Answers
+-- What the contracts of the C interface promise.
+pub mod Promises

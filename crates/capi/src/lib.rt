@@ -1,8 +1,6 @@
 // The tool's calls with the C calling convention, for programs in C and Rust; `include/pacer.h` declares them. A slice is a
 // pointer and a length there. Each call answers every input, says by equation with the definitions what it answers and what
 // the places lent to it hold afterwards, and has no `requires`.
-mod answers;
-
 use answers::CAnswer;
 use answers::CLogAnswer;
 use answers::CLookupAnswer;
@@ -22,7 +20,8 @@ ghost use Rattle.model.specs.Calls.{ruledOutcome, ruledSlot, beatQuery, sceneQu
 ghost use Rattle.model.specs.Calls.{readOutcome, readListOutcome, readList, stepOutcome, stepNext, lookupOutcome};
 ghost use Rattle.model.specs.Lookups.{lookupsOutcome, lookupsValues, lookupsCovered};
 ghost use Rattle.model.specs.Check.{checkOutcome};
-ghost use Rattle.capi.specs.Answers.{spanOf, askedFields, CheckFields, LookupsFields, logFields, FileFields, queryFields, RuledFields, segmentsFields, SegmentsFields, readFields, stepFields, lookupFields};
+ghost use Rattle.answers.specs.Fields.{askedFields, logFields, queryFields, segmentsFields, readFields, stepFields, lookupFields};
+ghost use Rattle.capi.specs.Promises.{spanOf, CheckFields, LookupsFields, FileFields, RuledFields, SegmentsFields};
 
 // Writes a record to the front of a buffer.
 #[no_mangle]

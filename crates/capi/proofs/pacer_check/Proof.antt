@@ -1,7 +1,7 @@
 -- `pacer_check` meets its contract: the fields of what the check says. Assumes nothing.
 use borrow.Author.Needs.{needs}
 use mathlib.Core.Path.{ap, _∙_}
-use Rattle.capi.specs.Answers.{askedFields}
+use Rattle.answers.specs.Fields.{askedFields}
 use Rattle.capi.proofs.pacer_check.Statement.{statement}
 use Rattle.capi.proofs.pacer_check.Tie as tie
 

@@ -1,7 +1,7 @@
 -- `pacer_lookup` meets its contract: the fields of the lookup's answer. Assumes nothing.
 use borrow.Author.Needs.{needs}
 use mathlib.Core.Path.{ap, _∙_}
-use Rattle.capi.specs.Answers.{lookupFields}
+use Rattle.answers.specs.Fields.{lookupFields}
 use Rattle.capi.proofs.pacer_lookup.Statement.{statement}
 use Rattle.capi.proofs.pacer_lookup.Tie as tie
 

@@ -1,7 +1,7 @@
 -- `pacer_lookups` meets its contract: the fields of what the many lookups say, and both lists as they leave them. Assumes nothing.
 use borrow.Author.Needs.{needs}
 use mathlib.Core.Path.{ap, _∙_}
-use Rattle.capi.specs.Answers.{askedFields}
+use Rattle.answers.specs.Fields.{askedFields}
 use Rattle.capi.proofs.pacer_lookups.Statement.{statement}
 use Rattle.capi.proofs.pacer_lookups.Tie as tie
 

@@ -1,7 +1,7 @@
 -- `pacer_query` meets its contract: the fields of the query's answer, and the slot as it leaves it. Assumes nothing.
 use borrow.Author.Needs.{needs}
 use mathlib.Core.Path.{ap, _∙_}
-use Rattle.capi.specs.Answers.{queryFields}
+use Rattle.answers.specs.Fields.{queryFields}
 use Rattle.capi.proofs.pacer_query.Statement.{statement}
 use Rattle.capi.proofs.pacer_query.Tie as tie
 

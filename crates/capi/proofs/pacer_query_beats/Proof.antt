@@ -1,7 +1,7 @@
 -- `pacer_query_beats` meets its contract: the fields of the answer to a query every so many frames, and the slot as it leaves it. Assumes nothing.
 use borrow.Author.Needs.{needs}
 use mathlib.Core.Path.{ap, _∙_}
-use Rattle.capi.specs.Answers.{queryFields}
+use Rattle.answers.specs.Fields.{queryFields}
 use Rattle.capi.proofs.pacer_query_beats.Statement.{statement}
 use Rattle.capi.proofs.pacer_query_beats.Tie as tie
 

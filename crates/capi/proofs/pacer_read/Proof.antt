@@ -1,7 +1,7 @@
 -- `pacer_read` meets its contract: the fields of the reader's answer. Assumes nothing.
 use borrow.Author.Needs.{needs}
 use mathlib.Core.Path.{ap, _∙_}
-use Rattle.capi.specs.Answers.{readFields}
+use Rattle.answers.specs.Fields.{readFields}
 use Rattle.capi.proofs.pacer_read.Statement.{statement}
 use Rattle.capi.proofs.pacer_read.Tie as tie
 

@@ -49,14 +49,14 @@ use Rattle.lent.proofs.rows.read_into as read
 use Rattle.lent.proofs.rows.read_into.Symbol as read-def
 use Rattle.lent.proofs.rows.read_into.Symbol.{name as #lent·rows·read-into}
 use Rattle.lent.proofs.rows.read_into.Met as read-thm
-use Rattle.capi.specs.Answers.{readFields}
-use Rattle.capi.specs.declared.answers.CReadAnswer.{CReadAnswer}
-use Rattle.capi.proofs.answers.CReadAnswer as K
-use Rattle.capi.proofs.answers.CReadAnswer.Laws as K′
-use Rattle.capi.proofs.answers.of_read as turn
-use Rattle.capi.proofs.answers.of_read.Symbol as turn-def
-use Rattle.capi.proofs.answers.of_read.Symbol.{name as #capi·answers·of-read}
-use Rattle.capi.proofs.answers.of_read.Met as turn-thm
+use Rattle.answers.specs.Fields.{readFields}
+use Rattle.answers.specs.declared.CReadAnswer.{CReadAnswer}
+use Rattle.answers.proofs.CReadAnswer as K
+use Rattle.answers.proofs.CReadAnswer.Laws as K′
+use Rattle.answers.proofs.of_read as turn
+use Rattle.answers.proofs.of_read.Symbol as turn-def
+use Rattle.answers.proofs.of_read.Symbol.{name as #answers·of-read}
+use Rattle.answers.proofs.of_read.Met as turn-thm
 use Rattle.capi.proofs.pacer_read_rows.Key.{name as #capi·pacer-read-rows}
 use Rattle.capi.proofs.pacer_read_rows as call
 use Rattle.capi.proofs.pacer_read_rows.Statement as stated
@@ -159,7 +159,7 @@ module _ {M : Type 1} (𝓤 : URA M) (H : Heap 𝓤) (A : Atoms 𝓤) (W : Given
       -- [what the answer owns; the last list; what the slot owns]
       nothing ! $ move ! (2 ∷ 0 ∷ []) $ fjoin ! $ move ! (2 ∷ 0 ∷ []) $ fjoin ! $ frame ! $ done !
 
-  module _ (C : Calls 𝓤 H) (Λ : Loops 𝓤 H) (fm : FmC 𝓤 H (W .laws) C) (known-read : Triple 𝓤 (C #lent·rows·read-into) (Read 𝓤 H A mem run)) (known-turn : Triple 𝓤 (C #capi·answers·of-read) (Turn 𝓤 H A mem run)) where
+  module _ (C : Calls 𝓤 H) (Λ : Loops 𝓤 H) (fm : FmC 𝓤 H (W .laws) C) (known-read : Triple 𝓤 (C #lent·rows·read-into) (Read 𝓤 H A mem run)) (known-turn : Triple 𝓤 (C #answers·of-read) (Turn 𝓤 H A mem run)) where
     walk : ent 𝓤 (onEntry 𝓤 H A call.signature (κ₀, (κ₁, tt)) (q₀, (q₁, tt)) a vals) (WpFn 𝓤 H C Λ code.function (v ∷ s ∷ []) Post)
     walk =
         qed W (raw (onEntry 𝓤 H A call.signature (κ₀, (κ₁, tt)) (q₀, (q₁, tt)) a vals) ∷ []) ∵ enter ! C Λ code.function (v ∷ s ∷ []) _ $
@@ -189,7 +189,7 @@ module _ {M : Type 1} (𝓤 : URA M) (H : Heap 𝓤) (A : Atoms 𝓤) (W : Given
         keep ! (0 ∷ 2 ∷ 3 ∷ 6 ∷ []) $ by ! (exits r (zs .1 .0) z w said turned l)))))))))))))))))
 
 module _ {M : Type 1} (𝓤 : URA M) (H : Heap 𝓤) (A : Atoms 𝓤) (W : Given 𝓤 H A) (mem : Memory → SProp 𝓤) (run : Routine → Fun 𝓤) (𝓣 : Tables 𝓤 H)
-    (known-read : Triple 𝓤 (𝓣 .C #lent·rows·read-into) (Read 𝓤 H A mem run)) (known-turn : Triple 𝓤 (𝓣 .C #capi·answers·of-read) (Turn 𝓤 H A mem run)) where
+    (known-read : Triple 𝓤 (𝓣 .C #lent·rows·read-into) (Read 𝓤 H A mem run)) (known-turn : Triple 𝓤 (𝓣 .C #answers·of-read) (Turn 𝓤 H A mem run)) where
   read-rows-walks : Walks 𝓤 H A call.ended stayed (WpFn 𝓤 H (𝓣 .C) (𝓣 .Λ) code.function) (call.clauses 𝓤 H A mem run)
   read-rows-walks = walked 𝓤 H A call.ended stayed (call.clauses 𝓤 H A mem run) (WpFn 𝓤 H (𝓣 .C) (𝓣 .Λ) code.function)
       (λ κs. (slice-vals, (slice-vals, tt))) (λ κs. (shr-slice-tells (named 0) (κs .0) u8, (mut-slice-tells (named 1) (κs .1 .0) R, tt)))
@@ -208,4 +208,4 @@ pacer-read-rows-spec 𝓤 H 𝓜 𝓖 𝓡 =
     (tables 𝓤 H 𝓜 𝓡 code.env .C) (tables 𝓤 H 𝓜 𝓡 code.env .Λ) #capi·pacer-read-rows code.function (code.unfolded 𝓤 H 𝓜 𝓡)
     (read-rows-meets 𝓤 H (𝓖 .A) (givenOf 𝓤 H 𝓜 𝓖) (𝓜 .mem) (𝓡 .run) (tablesOf 𝓤 H 𝓜 (tables 𝓤 H 𝓜 𝓡 code.env))
     (cited 𝓤 H (Read 𝓤 H (𝓖 .A) (𝓜 .mem) (𝓡 .run)) 𝓜 𝓡 code.env #lent·rows·read-into read-def.routine code.calls-lent·rows·read-into (read-thm.met 𝓤 H 𝓜 𝓖 𝓡))
-    (cited 𝓤 H (Turn 𝓤 H (𝓖 .A) (𝓜 .mem) (𝓡 .run)) 𝓜 𝓡 code.env #capi·answers·of-read turn-def.routine code.calls-capi·answers·of-read (turn-thm.met 𝓤 H 𝓜 𝓖 𝓡)))
+    (cited 𝓤 H (Turn 𝓤 H (𝓖 .A) (𝓜 .mem) (𝓡 .run)) 𝓜 𝓡 code.env #answers·of-read turn-def.routine code.calls-answers·of-read (turn-thm.met 𝓤 H 𝓜 𝓖 𝓡)))

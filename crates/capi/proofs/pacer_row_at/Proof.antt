@@ -1,7 +1,7 @@
 -- `pacer_row_at` meets its contract: the fields of the step, and the number that comes next. Assumes nothing.
 use borrow.Author.Needs.{needs}
 use mathlib.Core.Path.{_∙_}
-use Rattle.capi.specs.Answers.{stepFields}
+use Rattle.answers.specs.Fields.{stepFields}
 use Rattle.capi.proofs.pacer_row_at.Statement.{statement}
 use Rattle.capi.proofs.pacer_row_at.Tie as tie
 

@@ -51,14 +51,14 @@ use Rattle.lent.proofs.list.segments as find
 use Rattle.lent.proofs.list.segments.Symbol as find-def
 use Rattle.lent.proofs.list.segments.Symbol.{name as #lent·list·segments}
 use Rattle.lent.proofs.list.segments.Met as find-thm
-use Rattle.capi.specs.Answers.{segmentsFields}
-use Rattle.capi.specs.declared.answers.CSegmentsAnswer.{CSegmentsAnswer}
-use Rattle.capi.proofs.answers.CSegmentsAnswer as K
-use Rattle.capi.proofs.answers.CSegmentsAnswer.Laws as K′
-use Rattle.capi.proofs.answers.of_segments as turn
-use Rattle.capi.proofs.answers.of_segments.Symbol as turn-def
-use Rattle.capi.proofs.answers.of_segments.Symbol.{name as #capi·answers·of-segments}
-use Rattle.capi.proofs.answers.of_segments.Met as turn-thm
+use Rattle.answers.specs.Fields.{segmentsFields}
+use Rattle.answers.specs.declared.CSegmentsAnswer.{CSegmentsAnswer}
+use Rattle.answers.proofs.CSegmentsAnswer as K
+use Rattle.answers.proofs.CSegmentsAnswer.Laws as K′
+use Rattle.answers.proofs.of_segments as turn
+use Rattle.answers.proofs.of_segments.Symbol as turn-def
+use Rattle.answers.proofs.of_segments.Symbol.{name as #answers·of-segments}
+use Rattle.answers.proofs.of_segments.Met as turn-thm
 use Rattle.capi.proofs.pacer_segments.Key.{name as #capi·pacer-segments}
 use Rattle.capi.proofs.pacer_segments as call
 use Rattle.capi.proofs.pacer_segments.Statement as stated
@@ -164,7 +164,7 @@ module _ {M : Type 1} (𝓤 : URA M) (H : Heap 𝓤) (A : Atoms 𝓤) (W : Given
       nothing ! $ move ! (2 ∷ 0 ∷ []) $ fjoin ! $ owned ! u16 (Is u16) (uint-makes 𝓤 H A W w16) width _ (refl, width-fits) $ fjoin ! $
       owned ! u8 (Is u8) (uint-makes 𝓤 H A W w8) kind _ (refl, kind-fits) $ fjoin ! $ move ! (2 ∷ 0 ∷ []) $ fjoin ! $ frame ! $ done !
 
-  module _ (C : Calls 𝓤 H) (Λ : Loops 𝓤 H) (fm : FmC 𝓤 H (W .laws) C) (known-find : Triple 𝓤 (C #lent·list·segments) (Find 𝓤 H A mem run)) (known-turn : Triple 𝓤 (C #capi·answers·of-segments) (Turn 𝓤 H A mem run)) where
+  module _ (C : Calls 𝓤 H) (Λ : Loops 𝓤 H) (fm : FmC 𝓤 H (W .laws) C) (known-find : Triple 𝓤 (C #lent·list·segments) (Find 𝓤 H A mem run)) (known-turn : Triple 𝓤 (C #answers·of-segments) (Turn 𝓤 H A mem run)) where
     walk : ent 𝓤 (onEntry 𝓤 H A call.signature (κ₀, (κ₁, tt)) (q₀, (q₁, tt)) a vals) (WpFn 𝓤 H C Λ code.function (v ∷ vint w8 kind ∷ vint w16 width ∷ s ∷ []) Post)
     walk =
         qed W (raw (onEntry 𝓤 H A call.signature (κ₀, (κ₁, tt)) (q₀, (q₁, tt)) a vals) ∷ []) ∵ enter ! C Λ code.function (v ∷ vint w8 kind ∷ vint w16 width ∷ s ∷ []) _ $
@@ -194,7 +194,7 @@ module _ {M : Type 1} (𝓤 : URA M) (H : Heap 𝓤) (A : Atoms 𝓤) (W : Given
         keep ! (0 ∷ 2 ∷ 3 ∷ 8 ∷ []) $ by ! (exits r (zs .1 .1 .1 .0) z w said turned l)))))))))))))))))))
 
 module _ {M : Type 1} (𝓤 : URA M) (H : Heap 𝓤) (A : Atoms 𝓤) (W : Given 𝓤 H A) (mem : Memory → SProp 𝓤) (run : Routine → Fun 𝓤) (𝓣 : Tables 𝓤 H)
-    (known-find : Triple 𝓤 (𝓣 .C #lent·list·segments) (Find 𝓤 H A mem run)) (known-turn : Triple 𝓤 (𝓣 .C #capi·answers·of-segments) (Turn 𝓤 H A mem run)) where
+    (known-find : Triple 𝓤 (𝓣 .C #lent·list·segments) (Find 𝓤 H A mem run)) (known-turn : Triple 𝓤 (𝓣 .C #answers·of-segments) (Turn 𝓤 H A mem run)) where
   segments-walks : Walks 𝓤 H A call.ended stayed (WpFn 𝓤 H (𝓣 .C) (𝓣 .Λ) code.function) (call.clauses 𝓤 H A mem run)
   segments-walks = walked 𝓤 H A call.ended stayed (call.clauses 𝓤 H A mem run) (WpFn 𝓤 H (𝓣 .C) (𝓣 .Λ) code.function)
       (λ κs. (slice-vals, (uint-vals w8, (uint-vals w16, (slice-vals, tt))))) (λ κs. (shr-slice-tells (named 0) (κs .0) u8, (uint-tells w8, (uint-tells w16, (mut-slice-tells (named 1) (κs .1 .0) R, tt)))))
@@ -213,4 +213,4 @@ pacer-segments-spec 𝓤 H 𝓜 𝓖 𝓡 =
     (tables 𝓤 H 𝓜 𝓡 code.env .C) (tables 𝓤 H 𝓜 𝓡 code.env .Λ) #capi·pacer-segments code.function (code.unfolded 𝓤 H 𝓜 𝓡)
     (segments-meets 𝓤 H (𝓖 .A) (givenOf 𝓤 H 𝓜 𝓖) (𝓜 .mem) (𝓡 .run) (tablesOf 𝓤 H 𝓜 (tables 𝓤 H 𝓜 𝓡 code.env))
     (cited 𝓤 H (Find 𝓤 H (𝓖 .A) (𝓜 .mem) (𝓡 .run)) 𝓜 𝓡 code.env #lent·list·segments find-def.routine code.calls-lent·list·segments (find-thm.met 𝓤 H 𝓜 𝓖 𝓡))
-    (cited 𝓤 H (Turn 𝓤 H (𝓖 .A) (𝓜 .mem) (𝓡 .run)) 𝓜 𝓡 code.env #capi·answers·of-segments turn-def.routine code.calls-capi·answers·of-segments (turn-thm.met 𝓤 H 𝓜 𝓖 𝓡)))
+    (cited 𝓤 H (Turn 𝓤 H (𝓖 .A) (𝓜 .mem) (𝓡 .run)) 𝓜 𝓡 code.env #answers·of-segments turn-def.routine code.calls-answers·of-segments (turn-thm.met 𝓤 H 𝓜 𝓖 𝓡)))

@@ -2,7 +2,7 @@
 -- Assumes nothing.
 use borrow.Author.Needs.{needs}
 use mathlib.Core.Path.{ap, _∙_}
-use Rattle.capi.specs.Answers.{logFields}
+use Rattle.answers.specs.Fields.{logFields}
 use Rattle.capi.proofs.pacer_without_twins.Statement.{statement}
 use Rattle.capi.proofs.pacer_without_twins.Tie as tie
 

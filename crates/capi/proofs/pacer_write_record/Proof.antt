@@ -2,7 +2,8 @@
 use borrow.Author.Needs.{needs}
 use mathlib.Core.Path.{ap, _∙_}
 use Rattle.model.specs.Calls.{recordSpan}
-use Rattle.capi.specs.Answers.{spanOf, askedFields}
+use Rattle.answers.specs.Fields.{askedFields}
+use Rattle.capi.specs.Promises.{spanOf}
 use Rattle.capi.proofs.pacer_write_record.Statement.{statement}
 use Rattle.capi.proofs.pacer_write_record.Tie as tie
 

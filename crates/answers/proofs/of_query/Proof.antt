@@ -1,9 +1,9 @@
 -- `of_query` meets its contract: a query's answer, case by case. Assumes nothing.
 use borrow.Author.Needs.{needs}
 use Rattle.model.specs.Calls.{queryCase}
-use Rattle.capi.specs.Answers.{queryFields}
-use Rattle.capi.proofs.answers.of_query.Statement.{statement}
-use Rattle.capi.proofs.answers.of_query.Tie as tie
+use Rattle.answers.specs.Fields.{queryFields}
+use Rattle.answers.proofs.of_query.Statement.{statement}
+use Rattle.answers.proofs.of_query.Tie as tie
 
 enum-known-answer : tie.Need-enum-known-answer
 enum-known-answer c = search needs

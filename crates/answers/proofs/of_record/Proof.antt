@@ -1,9 +1,9 @@
 -- `of_record` meets its contract: the record writer's answer, case by case. Assumes nothing.
 use borrow.Author.Needs.{needs}
 use Rattle.model.specs.Calls.{recordCase}
-use Rattle.capi.specs.Answers.{askedFields}
-use Rattle.capi.proofs.answers.of_record.Statement.{statement}
-use Rattle.capi.proofs.answers.of_record.Tie as tie
+use Rattle.answers.specs.Fields.{askedFields}
+use Rattle.answers.proofs.of_record.Statement.{statement}
+use Rattle.answers.proofs.of_record.Tie as tie
 
 enum-told : tie.Need-enum-told
 enum-told c = search needs

@@ -10,7 +10,7 @@ use model::SegmentsAnswer;
 use model::Step;
 ghost use mathlib.Core.Path.{_≡_};
 ghost use Rattle.model.specs.Calls.{askedCase, recordCase, logCase, queryCase, segmentsCase, readCase, stepCase, lookupCase};
-ghost use Rattle.capi.specs.Answers.{askedFields, logFields, queryFields, segmentsFields, readFields, stepFields, lookupFields, noRow};
+ghost use Rattle.answers.specs.Fields.{askedFields, logFields, queryFields, segmentsFields, readFields, stepFields, lookupFields, noRow};
 
 // Of a call that has nothing more to say than whether it is accepted: the record writer and the check.
 #[repr(C)]

@@ -1,9 +1,9 @@
 -- `of_segments` meets its contract: the segment call's answer, case by case. Assumes nothing.
 use borrow.Author.Needs.{needs}
 use Rattle.model.specs.Calls.{segmentsCase}
-use Rattle.capi.specs.Answers.{segmentsFields}
-use Rattle.capi.proofs.answers.of_segments.Statement.{statement}
-use Rattle.capi.proofs.answers.of_segments.Tie as tie
+use Rattle.answers.specs.Fields.{segmentsFields}
+use Rattle.answers.proofs.of_segments.Statement.{statement}
+use Rattle.answers.proofs.of_segments.Tie as tie
 
 enum-known-answer : tie.Need-enum-known-answer
 enum-known-answer c = search needs

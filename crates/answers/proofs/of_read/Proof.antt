@@ -1,9 +1,9 @@
 -- `of_read` meets its contract: the reader's answer, case by case. Assumes nothing.
 use borrow.Author.Needs.{needs}
 use Rattle.model.specs.Calls.{readCase}
-use Rattle.capi.specs.Answers.{readFields}
-use Rattle.capi.proofs.answers.of_read.Statement.{statement}
-use Rattle.capi.proofs.answers.of_read.Tie as tie
+use Rattle.answers.specs.Fields.{readFields}
+use Rattle.answers.proofs.of_read.Statement.{statement}
+use Rattle.answers.proofs.of_read.Tie as tie
 
 enum-known-answer : tie.Need-enum-known-answer
 enum-known-answer c = search needs

@@ -1,8 +1,8 @@
 -- `no_row` meets its contract. Assumes nothing.
 use mathlib.Core.Path.{refl}
-use Rattle.capi.specs.Answers.{noRow}
-use Rattle.capi.proofs.answers.no_row.Statement.{statement}
-use Rattle.capi.proofs.answers.no_row.Tie as tie
+use Rattle.answers.specs.Fields.{noRow}
+use Rattle.answers.proofs.no_row.Statement.{statement}
+use Rattle.answers.proofs.no_row.Tie as tie
 
 returns : tie.Need-returns
 unfolding noRow

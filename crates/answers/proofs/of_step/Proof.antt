@@ -1,9 +1,9 @@
 -- `of_step` meets its contract: a step, case by case. Assumes nothing.
 use borrow.Author.Needs.{needs}
 use Rattle.model.specs.Calls.{stepCase, rowSpan}
-use Rattle.capi.specs.Answers.{stepFields}
-use Rattle.capi.proofs.answers.of_step.Statement.{statement}
-use Rattle.capi.proofs.answers.of_step.Tie as tie
+use Rattle.answers.specs.Fields.{stepFields}
+use Rattle.answers.proofs.of_step.Statement.{statement}
+use Rattle.answers.proofs.of_step.Tie as tie
 
 enum-known-step : tie.Need-enum-known-step
 enum-known-step c = search needs

@@ -1,9 +1,9 @@
 -- `of_log` meets its contract: the answer of the call for logs on file, case by case. Assumes nothing.
 use borrow.Author.Needs.{needs}
 use Rattle.model.specs.Calls.{logCase}
-use Rattle.capi.specs.Answers.{logFields}
-use Rattle.capi.proofs.answers.of_log.Statement.{statement}
-use Rattle.capi.proofs.answers.of_log.Tie as tie
+use Rattle.answers.specs.Fields.{logFields}
+use Rattle.answers.proofs.of_log.Statement.{statement}
+use Rattle.answers.proofs.of_log.Tie as tie
 
 enum-known-answer : tie.Need-enum-known-answer
 enum-known-answer c = search needs

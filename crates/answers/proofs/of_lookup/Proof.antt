@@ -1,9 +1,9 @@
 -- `of_lookup` meets its contract: a lookup's answer, case by case. Assumes nothing.
 use borrow.Author.Needs.{needs}
 use Rattle.model.specs.Calls.{lookupCase}
-use Rattle.capi.specs.Answers.{lookupFields}
-use Rattle.capi.proofs.answers.of_lookup.Statement.{statement}
-use Rattle.capi.proofs.answers.of_lookup.Tie as tie
+use Rattle.answers.specs.Fields.{lookupFields}
+use Rattle.answers.proofs.of_lookup.Statement.{statement}
+use Rattle.answers.proofs.of_lookup.Tie as tie
 
 enum-known-answer : tie.Need-enum-known-answer
 enum-known-answer c = search needs

@@ -1,9 +1,9 @@
 -- `of_asked` meets its contract: whether every question was passed. Assumes nothing.
 use borrow.Author.Needs.{needs}
 use Rattle.model.specs.Calls.{askedCase}
-use Rattle.capi.specs.Answers.{askedFields}
-use Rattle.capi.proofs.answers.of_asked.Statement.{statement}
-use Rattle.capi.proofs.answers.of_asked.Tie as tie
+use Rattle.answers.specs.Fields.{askedFields}
+use Rattle.answers.proofs.of_asked.Statement.{statement}
+use Rattle.answers.proofs.of_asked.Tie as tie
 
 enum-told : tie.Need-enum-told
 enum-told c = search needs

@@ -1,0 +1,2 @@
+-- The fields of the C answers.
+pub mod Fields
