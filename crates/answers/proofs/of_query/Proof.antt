@@ -1,5 +1,6 @@
 -- `of_query` meets its contract: a query's answer, case by case. Assumes nothing.
 use borrow.Author.Needs.{needs}
+use mathlib.Core.Path.{refl}
 use Rattle.model.specs.Calls.{queryCase}
 use Rattle.answers.specs.Fields.{queryFields}
 use Rattle.answers.proofs.of_query.Statement.{statement}
@@ -13,11 +14,11 @@ enum-known-answer-2 c = search needs
 
 returns : tie.Need-returns
 unfolding queryFields queryCase
-returns c = rw (c .before .answer .given .1)
+returns c = rw (c .before .answer .given .1) refl
 
 returns-2 : tie.Need-returns-2
 unfolding queryFields queryCase
-returns-2 c = rw (c .before .answer2 .given .1)
+returns-2 c = rw (c .before .answer2 .given .1) refl
 
 pub of-query-spec : {M : Type 1} → statement M
 of-query-spec = tie.close (tie.spec enum-known-answer enum-known-answer-2 returns returns-2)

@@ -1,5 +1,6 @@
 -- `of_step` meets its contract: a step, case by case. Assumes nothing.
 use borrow.Author.Needs.{needs}
+use mathlib.Core.Path.{refl}
 use Rattle.model.specs.Calls.{stepCase, rowSpan}
 use Rattle.answers.specs.Fields.{stepFields}
 use Rattle.answers.proofs.of_step.Statement.{statement}
@@ -22,7 +23,7 @@ no-row-requires-2 c κs = search needs
 
 returns : tie.Need-returns
 unfolding stepFields stepCase rowSpan
-returns c = rw (c .before .step .given .1)
+returns c = rw (c .before .step .given .1) refl
 
 returns-2 : tie.Need-returns-2
 unfolding stepFields stepCase rowSpan
