@@ -1,23 +1,22 @@
 -- The rows of a slot that has passed its questions begin and end in the order of places, so that the first that does not end before a
 -- frame is the only one that can contain it. Assumes nothing.
 use Prim.Native.Nat.{ℕ, zero, suc, _+_, _-_, _*_, _≤_, _<_}
-use mathlib.Core.Bool.{true, false, _&&_}
+use mathlib.Core.Bool.{true, false}
 use mathlib.Core.List.{List}
 use mathlib.Core.Option.{none, some}
 use mathlib.Core.Path.{_≡_, refl, sym, ap, _∙_}
 use native.Mathlib.Omega.{arith}
 use borrow.Author.Tests.{leb-true, eqb-true, eqb-false}
-use lib.Dec.{leb, eqb}
-use lib.ListN.{getD}
+use lib.Dec.{eqb}
 use Rattle.model.specs.Common.{listFrom}
 use Rattle.model.specs.Spans.{Span, holds}
 use Rattle.model.specs.Slot.{slotCount, slotRow, slotRows, valueIn}
-use Rattle.model.specs.Questions.{ask, groupKnown, mostValue, rowKnown, rowQuestions, slotQuestions}
-use Rattle.model.specs.Demands.{AllPass}
-use Rattle.theory.proofs.Tests.{cases, and-true, false-holds, true-holds}
+use Rattle.model.specs.Questions.{ask, rowQuestions, slotQuestions}
+use Rattle.model.specs.Demands.{AllPass, Bytes}
+use Rattle.theory.proofs.Tests.{cases, false-holds, true-holds}
 use Rattle.theory.proofs.Refusals.{all-head, all-tail}
 use Rattle.theory.proofs.SlotLaws.{rows-passed}
-use Rattle.theory.proofs.InOrder.{two-small}
+use Rattle.theory.proofs.InOrder.{row-held, two-small}
 use Rattle.theory.proofs.Lists.{listFrom-left, all-left}
 use Rattle.slot.specs.Places.{placeOf, leastPlace}
 use Rattle.slot.proofs.Compared.{in-order}
@@ -35,14 +34,14 @@ ascending h count next i (suc j) le lt =
 -- ---- rows that do not contain a frame
 
 module _ (h : ℕ → Span ℕ) (g f : ℕ) where
-  pub value-none : (from count : ℕ) → ((i : ℕ) → from ≤ i → i < from + count → holds (h i) g f ≡ false)
+  value-none : (from count : ℕ) → ((i : ℕ) → from ≤ i → i < from + count → holds (h i) g f ≡ false)
       → valueIn (listFrom from count h) g f ≡ none
   unfolding listFrom valueIn
   value-none from zero free = refl
   value-none from (suc count) free =
       rw (free from (omega arith) (omega arith)) (value-none (suc from) count (λ i a b. free i (omega (arith, a)) (omega (arith, b))))
 
-  pub value-behind : (count r : ℕ) → r ≤ count → ((i : ℕ) → i < r → holds (h i) g f ≡ false)
+  value-behind : (count r : ℕ) → r ≤ count → ((i : ℕ) → i < r → holds (h i) g f ≡ false)
       → valueIn (listFrom 0 count h) g f ≡ valueIn (listFrom r (count - r) h) g f
   unfolding valueIn
   value-behind count zero le free = sym (all-left (λ k. valueIn (listFrom 0 k h) g f) count)
@@ -51,7 +50,7 @@ module _ (h : ℕ → Span ℕ) (g f : ℕ) where
       ∙ ap (λ l. valueIn l g f) (listFrom-left h r count (omega (arith, le)))
       ∙ rw (free r (omega arith))
 
-module _ (slot : List ℕ) (small : (i : ℕ) → getD slot i 0 < 256) (all : AllPass (slotQuestions slot)) where
+module _ (slot : List ℕ) (small : Bytes slot) (all : AllPass (slotQuestions slot)) where
   abbrev row : ℕ → Span ℕ
   row = slotRow slot
 
@@ -62,15 +61,6 @@ module _ (slot : List ℕ) (small : (i : ℕ) → getD slot i 0 < 256) (all : Al
   abbrev startOf : ℕ → ℕ
   startOf i = placeOf (row i .group) (row i .first)
 
-  -- 15: a row's first frame is not behind its last
-  proper : (i : ℕ) → i < count → row i .first ≤ row i .last
-  unfolding rowQuestions ask rowKnown groupKnown
-  proper i lt =
-      let known = all-head _ _ (all-tail _ _ (rows-passed slot all i lt)) in
-      let r = row i in
-      let p = and-true (leb (r .group) 7 && leb (r .first) (r .last)) (leb (r .value) mostValue) known in
-      leb-true _ _ (and-true (leb (r .group) 7) (leb (r .first) (r .last)) (p .0) .1)
-
   -- 16: a row begins behind the end of the one before
   begins-behind : (i : ℕ) → suc i < count → endOf slot i < startOf (suc i)
   unfolding rowQuestions ask leastPlace endOf
@@ -79,9 +69,10 @@ module _ (slot : List ℕ) (small : (i : ℕ) → getD slot i 0 < 256) (all : Al
       let least = leb-true (leastPlace slot (suc i)) (startOf (suc i)) (sym (in-order slot small (suc i)) ∙ ordered) in
       omega (arith, least)
 
+  -- 15: it does not begin behind its own end
   begins-first : (i : ℕ) → i < count → startOf i ≤ endOf slot i
   unfolding endOf placeOf
-  begins-first i lt = omega (arith, proper i lt)
+  begins-first i lt = omega (arith, row-held slot small all i lt .1)
 
   -- so rows end in order, and begin in order
   pub ends-in-order : EndInOrder slot count

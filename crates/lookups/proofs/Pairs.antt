@@ -8,21 +8,19 @@ use lib.Dec.{leb}
 use lib.ListN.{getD}
 use Rattle.model.specs.Questions.{refused, accepted, ask, outcome, groupKnown}
 use Rattle.model.specs.Lookups.{pairQuestions}
+use Rattle.model.specs.Demands.{LongEnough}
 use Rattle.theory.proofs.Tests.{true≢false, and-true, true-and}
 use Rattle.theory.proofs.Asking.{answer}
 
+-- n pairs, and lists of so many places
 module _ (n frames values covered : ℕ) where
-  -- n pairs, and lists that are as long
-  abbrev AsLong : Type 0
-  AsLong = (n ≤ frames) × (n ≤ values) × (n ≤ covered)
-
-  pub lists-long : leb n frames && leb n values && leb n covered ≡ true → AsLong
+  pub lists-long : leb n frames && leb n values && leb n covered ≡ true → LongEnough n frames values covered
   lists-long said =
       let (two, third) = and-true (leb n frames && leb n values) (leb n covered) said in
       let (first, second) = and-true (leb n frames) (leb n values) two in
       (leb-true n frames first, leb-true n values second, leb-true n covered third)
 
-  pub lists-short : leb n frames && leb n values && leb n covered ≡ false → AsLong → ⊥
+  pub lists-short : leb n frames && leb n values && leb n covered ≡ false → LongEnough n frames values covered → ⊥
   lists-short said (a, b, c) =
       true≢false (sym (true-and (leb n frames && leb n values) (leb n covered) (true-and _ _ (le-leb n frames a) (le-leb n values b)) (le-leb n covered c)) ∙ said)
 

@@ -4,7 +4,7 @@ use mathlib.Core.List.{List}
 use Rattle.model.specs.Slot.{slotRow}
 use Rattle.slot.specs.Places.{placeOf}
 
--- the place of the last frame of row i of a slot, and of its first one
+-- the place of the last frame of row i of a slot
 unfoldable pub endOf : List ℕ → ℕ → ℕ
 endOf slot i = placeOf (slotRow slot i .group) (slotRow slot i .last)
 

@@ -56,12 +56,6 @@ fn ask(slot: &[u8], pairs: usize, frames: usize, values: usize, covered: usize) 
     then(asked, counted)
 }
 
-// What is written for a pair: the value of the row that holds its frame and 1, or 0 and 0 where there is none.
-struct Shown {
-    value: u32,
-    covered: u8,
-}
-
 // The number of the first of a slot's first `count` rows that does not end before a place, in the order of all groups' frames, and
 // `count` where all do. The rows end in that order, so that a row in the middle tells which half to go on with. Both halves are taken to
 // be equally long, and so the turns do not depend on what is found.
@@ -81,6 +75,12 @@ fn reach(slot: &[u8], count: usize, place: u32) -> usize
         size = size / 2;
     }
     at
+}
+
+// What is written for a pair: the value of the row that holds its frame and 1, or 0 and 0 where there is none.
+struct Shown {
+    value: u32,
+    covered: u8,
 }
 
 // What is written for a group and a frame, from the rows of a slot that has passed its questions.
@@ -107,7 +107,7 @@ fn look(slot: &[u8], group: u8, frame: u16) -> Shown
 }
 
 // Writes what the slot's rows say of each pair to the first places of both lists.
-fn answer(slot: &[u8], groups: &[u8], frames: &[u16], values: &mut [u32], covered: &mut [u8])
+fn fill(slot: &[u8], groups: &[u8], frames: &[u16], values: &mut [u32], covered: &mut [u8])
     requires { ⌜ AllPass (slotQuestions (now slot)) ⌝ }
     requires { ⌜ (length (now groups) ≤ length (now frames)) × (length (now groups) ≤ length (now values)) × (length (now groups) ≤ length (now covered)) ⌝ }
     ensures { λ _. ⌜ now (values .exit) ≡ pairsShown valueShown (now (slot .entry)) (now (groups .entry)) (now (frames .entry)) (now (values .entry)) ⌝ }
@@ -156,6 +156,6 @@ pub fn look_up(
     if !is_passed(all) {
         return all;
     }
-    answer(slot, groups, frames, values, covered);
+    fill(slot, groups, frames, values, covered);
     all
 }

@@ -473,10 +473,9 @@ singly slot groups frames i = lookupOutcome slot (getD groups i 0) (getD frames 
 abbrev pub AnsweredTo : ℕ → List ℕ → List ℕ → List ℕ → Type 0
 AnsweredTo n slot groups frames = (i : ℕ) → i < n → (found : Option ℕ) × (singly slot groups frames i ≡ accepted found)
 
--- no list is shorter than the pairs
-abbrev pub LongEnough : List ℕ → List ℕ → List ℕ → List ℕ → Type 0
-LongEnough groups frames values covered =
-    (length groups ≤ length frames) × (length groups ≤ length values) × (length groups ≤ length covered)
+-- no list is shorter than the pairs: so many pairs, and lists of so many frames, values and flags
+abbrev pub LongEnough : ℕ → ℕ → ℕ → ℕ → Type 0
+LongEnough pairs frames values covered = (pairs ≤ frames) × (pairs ≤ values) × (pairs ≤ covered)
 
 -- what a call of many lookups that answers so leaves in a list, in which a single lookup's answer is written as shown: either every
 -- pair's answer, with later places kept, or the list stays untouched
@@ -530,13 +529,13 @@ pub record LookupsPromise (slot groups frames values covered : List ℕ) (says :
   pub intoValues : AnsweredInto valueShown slot groups frames values says valuesAfter
   pub intoCovered : AnsweredInto coveredShown slot groups frames covered says coveredAfter
   pub exactly : (says ≡ accepted tt)
-      ↔ (LongEnough groups frames values covered × AllPass (slotQuestions slot) × (length groups ≤ mostPairs)
+      ↔ (LongEnough (length groups) (length frames) (length values) (length covered) × AllPass (slotQuestions slot) × (length groups ≤ mostPairs)
       × AnsweredTo (length groups) slot groups frames)
-  pub tooShort : (LongEnough groups frames values covered → ⊥) → says ≡ refused 1 0
-  pub asRead : LongEnough groups frames values covered → (number index : ℕ) → readOutcome slot ≡ refused number index
+  pub tooShort : (LongEnough (length groups) (length frames) (length values) (length covered) → ⊥) → says ≡ refused 1 0
+  pub asRead : LongEnough (length groups) (length frames) (length values) (length covered) → (number index : ℕ) → readOutcome slot ≡ refused number index
       → says ≡ refused number index
-  pub tooMany : LongEnough groups frames values covered → AllPass (slotQuestions slot) → mostPairs < length groups → says ≡ refused 26 0
-  pub firstBad : LongEnough groups frames values covered → AllPass (slotQuestions slot) → length groups ≤ mostPairs
+  pub tooMany : LongEnough (length groups) (length frames) (length values) (length covered) → AllPass (slotQuestions slot) → mostPairs < length groups → says ≡ refused 26 0
+  pub firstBad : LongEnough (length groups) (length frames) (length values) (length covered) → AllPass (slotQuestions slot) → length groups ≤ mostPairs
       → (i : ℕ) → (says ≡ refused 7 i)
       ↔ ((i < length groups) × (singly slot groups frames i ≡ refused 7 0) × AnsweredTo i slot groups frames)
 

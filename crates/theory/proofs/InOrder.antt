@@ -100,7 +100,8 @@ unfolding numberAt
 two-small bytes small i = omega (arith, small i, small (suc i))
 
 module _ (slot : List ℕ) (small : Bytes slot) (all : AllPass (slotQuestions slot)) where
-  row-held : (i : ℕ) → i < slotCount slot → Held (slotRow slot i)
+  -- row i can be held
+  pub row-held : (i : ℕ) → i < slotCount slot → Held (slotRow slot i)
   unfolding rowQuestions ask rowKnown groupKnown groupCount frameCount slotRow
   row-held i lt =
       let known = all-head _ _ (all-tail _ _ (rows-passed slot all i lt)) in

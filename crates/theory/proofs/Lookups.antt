@@ -15,7 +15,7 @@ use Rattle.model.specs.Common.{listFrom}
 use Rattle.model.specs.Questions.{Question, Outcome, refused, accepted, ask, askRoom, outcome, each, groupKnown, slotQuestions, lookupQuestions}
 use Rattle.model.specs.Calls.{readOutcome, lookupOutcome}
 use Rattle.model.specs.Lookups.{mostPairs, pairQuestions, aheadOfGroups, lookupsQuestions, lookupsOutcome, pairFound, valueShown, coveredShown, pairsShown, lookupsList, lookupsValues, lookupsCovered}
-use Rattle.model.specs.Demands.{AllPass, AnsweredTo, AnsweredInto, LookupsPromise, singly}
+use Rattle.model.specs.Demands.{AllPass, LongEnough, AnsweredTo, AnsweredInto, LookupsPromise, singly}
 use Rattle.theory.proofs.Tests.{cases, true≢false}
 use Rattle.theory.proofs.Refusals.{accepted≢refused, all-nil, all-cons, all-head, all-tail, all-append, all-left, all-right, all-each, all-at, outcome-accepted, all-outcome, outcome-behind, all-lent, refused-lent, refused-first, refused-same}
 use Rattle.theory.proofs.SlotLaws.{length-listFrom}
@@ -80,8 +80,8 @@ module _ (slot : List ℕ) (pairs frames values covered : ℕ) where
   abbrev counted : List Question
   counted = ask 26 0 (leb pairs mostPairs) ∷ []
 
-  abbrev pub Long : Type 0
-  Long = (pairs ≤ frames) × (pairs ≤ values) × (pairs ≤ covered)
+  abbrev Long : Type 0
+  Long = LongEnough pairs frames values covered
 
   abbrev ahead : List Question
   ahead = aheadOfGroups slot pairs frames values covered
@@ -139,7 +139,7 @@ module _ (slot groups : List ℕ) (frames values covered : ℕ) where
   abbrev before : List Question
   before = aheadOfGroups slot (length groups) frames values covered
 
-  abbrev pub each-pair : List Question
+  abbrev each-pair : List Question
   each-pair = each (pairQuestions groups) 0 (length groups)
 
   abbrev says : Outcome (Unit {0})
@@ -156,7 +156,7 @@ module _ (slot groups : List ℕ) (frames values covered : ℕ) where
   behind-before all = outcome-behind before each-pair tt all
 
   pub passed : says ≡ accepted tt
-      → Long slot (length groups) frames values covered × AllPass (slotQuestions slot) × (length groups ≤ mostPairs)
+      → LongEnough (length groups) frames values covered × AllPass (slotQuestions slot) × (length groups ≤ mostPairs)
       × ((i : ℕ) → i < length groups → Known groups i)
   unfolding lookupsOutcome lookupsQuestions ask pairQuestions
   passed e =
@@ -193,7 +193,7 @@ module _ (slot groups frames : List ℕ) where
     said = lookupsOutcome slot groups (length frames) values covered
 
     abbrev LongOf : Type 0
-    LongOf = Long slot (length groups) (length frames) values covered
+    LongOf = LongEnough (length groups) (length frames) values covered
 
     pub exactly : (said ≡ accepted tt)
         ↔ (LongOf × AllPass (slotQuestions slot) × (length groups ≤ mostPairs) × AnsweredTo (length groups) slot groups frames)

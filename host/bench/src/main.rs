@@ -851,7 +851,7 @@ fn lookups_line(report: &mut Report, by: &str, slot: &[u8; 768], pairs: &Pairs) 
             &mut others,
             &mut flags,
         );
-        assert_eq!((no, &others, &flags), ((0, 0), &values, &covered), "{name}");
+        assert_eq!((no, &others, &flags), (Ok(()), &values, &covered), "{name}");
     }
     let (mut others, mut flags) = blank();
     singles(slot, groups, frames, &mut others, &mut flags);
@@ -865,7 +865,7 @@ fn lookups_line(report: &mut Report, by: &str, slot: &[u8; 768], pairs: &Pairs) 
     let (mut row_values, mut row_flags) = blank();
     let mut row_by_row = || {
         let (slot, groups, frames) = input();
-        black_box(plain::lookups(
+        let _ = black_box(plain::lookups(
             plain::find_value,
             slot,
             groups,
@@ -877,7 +877,7 @@ fn lookups_line(report: &mut Report, by: &str, slot: &[u8; 768], pairs: &Pairs) 
     let (mut half_values, mut half_flags) = blank();
     let mut halving = || {
         let (slot, groups, frames) = input();
-        black_box(plain::lookups(
+        let _ = black_box(plain::lookups(
             plain::find_by_halving,
             slot,
             groups,
@@ -906,7 +906,7 @@ fn plain_lookups(
     frames: &[u16],
     values: &mut [u32],
     covered: &mut [u8],
-) -> (u8, usize) {
+) -> Result<(), (u8, usize)> {
     if halving {
         plain::lookups(
             plain::find_by_halving,

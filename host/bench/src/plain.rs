@@ -597,22 +597,8 @@ pub fn lookup(slot: &[u8], group: u8, frame: u16) -> (u8, usize, Option<u32>) {
     (0, 0, find_value(rows, group, frame))
 }
 
-/// Many lookups as a set, where a pair's row is found so: question and index.
+/// Many lookups as a set, where a pair's row is found so: the first 'no', if any.
 pub fn lookups(
-    find: impl Fn(&[u8], u8, u16) -> Option<u32>,
-    slot: &[u8],
-    groups: &[u8],
-    frames: &[u16],
-    values: &mut [u32],
-    covered: &mut [u8],
-) -> No {
-    match try_lookups(find, slot, groups, frames, values, covered) {
-        Ok(()) => (0, 0),
-        Err(no) => no,
-    }
-}
-
-fn try_lookups(
     find: impl Fn(&[u8], u8, u16) -> Option<u32>,
     slot: &[u8],
     groups: &[u8],

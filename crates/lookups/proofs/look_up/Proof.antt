@@ -47,8 +47,8 @@ returns c =
 accepts : (c : tie.Else1) → askedCase (c .before .before .then .result) ≡ accepted tt
 accepts c = c .before .is-passed .ensures .0 (not-false _ (c .if1 .left))
 
-answer-requires : tie.Need-answer-requires
-answer-requires c κs =
+fill-requires : tie.Need-fill-requires
+fill-requires c κs =
     let e = c .before .before in
     let a = c .before .before .before .before .before .before .before .before .before .before .before .before .args in
     let (long, read, few, known) = passed (a .slot .now) (a .groups .now) (length (a .frames .now)) (length (a .values .now)) (length (a .covered .now)) (sym (says (e .before .before)) ∙ accepts e) in
@@ -66,7 +66,7 @@ returns-2 c =
     let e = c .before .before .before .before .before .before .before in
     let a = c .before .before .before .before .before .before .before .before .before .before .before .before .before .before .before .before .before .args in
     let l = passed-leaves (a .slot .now) (a .groups .now) (a .frames .now) (a .values .now) (a .covered .now) _ (says (e .before .before)) (accepts e) in
-    rw (told .answer .ensures .0, told .answer .ensures .1) l
+    rw (told .fill .ensures .0, told .fill .ensures .1) l
 
 pub look-up-spec : {M : Type 1} → statement M
 look-up-spec =
@@ -77,7 +77,7 @@ look-up-spec =
     then-requires
     is-passed-requires
     returns
-    answer-requires
+    fill-requires
     same-length
     same-length-2
     returns-2)

@@ -1,4 +1,4 @@
--- `lookups::answer` meets its contract. The invariant: the first `i` places of both lists hold what is written for their pairs. The
+-- `lookups::fill` meets its contract. The invariant: the first `i` places of both lists hold what is written for their pairs. The
 -- measure is the number of pairs that are left. Assumes nothing.
 use borrow.Author.Needs.{needs}
 use Prim.Native.Nat.{_-_, _≤_}
@@ -8,8 +8,8 @@ use native.Mathlib.Omega.{arith}
 use lib.ListN.{length}
 use Rattle.model.specs.Lookups.{pairFound, valueShown, coveredShown, pairsShown}
 use Rattle.theory.proofs.Copying.{copied, copied-none, copied-length, copied-more}
-use Rattle.lookups.proofs.answer.Statement.{statement}
-use Rattle.lookups.proofs.answer.Tie as tie
+use Rattle.lookups.proofs.fill.Statement.{statement}
+use Rattle.lookups.proofs.fill.Tie as tie
 
 abbrev Inv-loop : tie.InvT-loop
 Inv-loop slot groups frames values₀ covered₀ i₀ i-end values covered i =
@@ -93,8 +93,8 @@ returns c =
     let end : l .i ≡ length (c .before .before .before .before .before .before .before .args .groups .now) = omega arith in
     (l .inv .1 ∙ rw end, l .inv .2 ∙ rw end)
 
-pub answer-spec : {M : Type 1} → statement M
-answer-spec =
+pub fill-spec : {M : Type 1} → statement M
+fill-spec =
     tie.close
     (tie.spec
     Inv-loop
