@@ -182,11 +182,11 @@ module _ {L : Type 0} (g f : ℕ) where
     -- a frame's cost under a label, and without one
     label_cost_lem : (z : L) → frame_cost cost o (some z) ≡ worth (λ v. cost v z) o
     unfolding frame_cost worth
-    label_cost_lem z = elim o [ none ↦ refl | some v ↦ refl ]
+    label_cost_lem z = elim o as (λ k. frame_cost cost k (some z) ≡ worth (λ v. cost v z) k) [ none ↦ refl | some v ↦ refl ]
 
     no_label_cost : frame_cost cost o none ≡ 0
     unfolding frame_cost
-    no_label_cost = elim o [ none ↦ refl | some v ↦ refl ]
+    no_label_cost = elim o as (λ k. frame_cost cost k none ≡ 0) [ none ↦ refl | some v ↦ refl ]
 
     -- a frame's cost is a sum over the rows, where at most one of them contains it
     pub one_row_lem : (rows : List (Span L)) → hits rows g f ≤ 1

@@ -193,6 +193,7 @@ module _ {V' L : Type 0} (C : Cost V' L) where
   -- the pieces joined: no more parts and no more cost
   pub exchange : {ps : List (Span V')} {z : L} {k c : ℕ} → ((s : Span V') → Memᴰ s ps → s.first ≤ s.last)
       → Labelling C ps z k c → (y : L) × (j : ℕ) × Labelling C (foldr (fuse C.same) [] ps) y j c × (j ≤ k)
+  exchange {ps = []} ordered l = elim l [ ]
   exchange {ps = p ∷ ps} {z} {k} {c} ordered l =
       let r = exchange_from ordered l in
       (r.label, r.parts, rw r.list r.labelling, no_more r.fewer)

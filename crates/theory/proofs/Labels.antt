@@ -85,6 +85,7 @@ sum_of_ones (a ∷ l) = omega (arith, sum_of_ones l)
 pub member_hits : {A : Type 0} (g f : ℕ) (r : Span A) (rows : List (Span A)) → Memᴰ r rows → holds r g f ≡ true
     → 1 ≤ hits rows g f
 unfolding hits
+member_hits g f r [] m h = elim m [ ]
 member_hits g f r (s ∷ rows) (Memᴰ.head e) h = rw (← ap (λ (t : Span _). holds t g f) e, h) (omega arith)
 member_hits g f r (s ∷ rows) (Memᴰ.tail m) h =
     let ih = member_hits g f r rows m h in
