@@ -1,6 +1,8 @@
 // What several crates need: numbers of several bytes, least byte first, the place of a slot's row, a question's 'no', questions behind
 // others, whether a width is known, and the slot and the rows in which nothing stands.
-ghost use Rattle.std.specs.Prelude.{◌≡◌, List, [], ◌++◌, ◌+◌, ◌%◌, ◌≤◌, length, replicate};
+#![tactic(auto)]
+
+ghost use Rattle.std.specs.Prelude.{◌≡◌, List, [], ◌++◌, ◌+◌, ◌%◌, ◌≤◌, length, drop, replicate};
 ghost use Rattle.model.specs.Common.{number_at};
 ghost use Rattle.model.specs.Slot.{row_place};
 ghost use Rattle.model.specs.Questions.{Question, outcome, width_known};
@@ -8,6 +10,15 @@ ghost use Rattle.model.specs.Calls.{asked_case};
 ghost use Rattle.model.specs.Arrays.{row_array};
 
 use model::{Asked, MOST_ROWS, MOST_WIDTH, Refusal, Row, SLOT_LENGTH};
+
+// Copies bytes to the front of a buffer that has room for them.
+pub fn copy(from: &[u8], to: &mut [u8])
+    requires { length from.now ≤ length to.old }
+    ensures { to.new ≡ from.now ++ drop (length from.now) to.old }
+{
+    let n = from.len();
+    to[..n].copy_from_slice(from);
+}
 
 // A byte, as wide as a count or a place.
 pub fn wide(x: u8) -> usize

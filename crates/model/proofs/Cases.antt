@@ -18,7 +18,7 @@ use Rattle.model.specs.Blocks.{segment_at, gap, last_gap, runs_to, block, empty,
 use Rattle.model.specs.Split.{untried, plus, below, exceeds, weigh, scan, single, cell, least, weighed, cuts_of, rows_of, fewest, within, first_that, most_rows, chosen, rows_tried, Reduced, error_of, gap_below, runs, least_of, count_for, reduced_to, reduced}
 use Rattle.model.specs.Slot.{slot_length, by_bound, row_bytes, rows_bytes, used_bytes, slot_bytes, row_place, slot_mark, slot_kind, slot_count, slot_error, slot_row, slot_rows, value_in}
 use Rattle.model.specs.Questions.{ask, Outcome, refused, accepted, outcome, each, marked, ask_room, kind_known, bound_known, group_known, span_questions, record_questions, twin_questions, most_records, log_questions, width_known, ask_width, order_questions, enough_rows, query_questions, query_by}
-use Rattle.model.specs.Questions.{lent, write_questions, follows, in_order, row_known, row_questions, zeros, tail_zero, error_known, header_marked, slot_questions}
+use Rattle.model.specs.Questions.{lent, write_questions, follows, in_order, row_known, row_questions, error_known, header_marked, slot_questions}
 use Rattle.model.specs.Calls.{Counts, counts_of, log_segments, query_segments, answer_of, query_outcome, query_slot, Header, read_outcome, read_rows, write_outcome, written_buffer}
 use Rattle.model.specs.Fitting.{FitsFor, whole}
 use Rattle.model.specs.declared.Bound.{Bound}

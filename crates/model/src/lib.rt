@@ -1,5 +1,6 @@
 // The data that crosses crates: log records, segments, rows, queries and the answers of the tool's calls.
 // What they mean stands in specs/, where `Demands` states what the tool owes its user.
+#![tactic(auto)]
 
 // The paper's limits.
 
@@ -49,7 +50,7 @@ pub const MOST_SCENES: usize = 16;
 pub const MOST_PAIRS: usize = 64;
 
 // A log record: the load of a group over the frames first to last, both included, in thousandths of a frame's time.
-#[derive(Drop)]
+#[derive(Clone, Copy)]
 pub struct Record {
     pub group: u8,
     pub first: u16,
@@ -59,7 +60,7 @@ pub struct Record {
 
 // A longest stretch of covered frames of one group with equal value.
 #[repr(C)]
-#[derive(Drop)]
+#[derive(Clone, Copy)]
 pub struct Segment {
     pub group: u8,
     pub first: u16,
@@ -68,7 +69,7 @@ pub struct Segment {
 }
 
 // The records of a log, field by field. Places past the count are zeros.
-#[derive(Drop)]
+#[derive(Clone, Copy)]
 pub struct Records {
     pub groups: [u8; MOST_RECORDS],
     pub firsts: [u16; MOST_RECORDS],
@@ -78,7 +79,7 @@ pub struct Records {
 }
 
 // Segments, field by field. Places past the count are zeros.
-#[derive(Drop)]
+#[derive(Clone, Copy)]
 pub struct Segments {
     pub groups: [u8; MOST_SEGMENTS],
     pub firsts: [u16; MOST_SEGMENTS],
@@ -89,7 +90,7 @@ pub struct Segments {
 
 // A row of a slot: a block of adjacent segments with its row value.
 #[repr(C)]
-#[derive(Drop)]
+#[derive(Clone, Copy)]
 pub struct Row {
     pub group: u8,
     pub first: u16,
@@ -98,7 +99,7 @@ pub struct Row {
 }
 
 // What limits the rows of an answer: their number, or their error in thousandths of the least error of the fewest rows.
-#[derive(Drop)]
+#[derive(Clone, Copy)]
 pub enum Bound {
     Rows(u16),
     Share(u16),
@@ -106,7 +107,7 @@ pub enum Bound {
 
 // A query by a bound. The width is that of its memory: how many of the last frames, the frame itself included, a frame's value is
 // made of.
-#[derive(Drop)]
+#[derive(Clone, Copy)]
 pub struct Query {
     pub kind: u8,
     pub bound: Bound,
@@ -115,7 +116,7 @@ pub struct Query {
 
 // What an answer's rows are made by: a bound, as above, or windows, which are every `length` frames from frame `start` on, or so
 // many scenes.
-#[derive(Drop)]
+#[derive(Clone, Copy)]
 pub enum Rule {
     Rows(u16),
     Share(u16),
@@ -125,7 +126,7 @@ pub enum Rule {
 
 // A query by any rule. The width of its memory is read for bounds alone. The first and last frames of its scenes stand beside the
 // rule, and are read for scenes alone.
-#[derive(Drop)]
+#[derive(Clone, Copy)]
 pub struct RuledQuery {
     pub kind: u8,
     pub rule: Rule,
@@ -135,42 +136,42 @@ pub struct RuledQuery {
 }
 
 // The number of the first question that was answered 'no', with the index of the record or row (0 where there is none).
-#[derive(Drop)]
+#[derive(Clone, Copy)]
 pub struct Refusal {
     pub question: u8,
     pub index: usize,
 }
 
 // Whether every question was passed.
-#[derive(Drop)]
+#[derive(Clone, Copy)]
 pub enum Asked {
     Passed,
     Refused(Refusal),
 }
 
 // The answer of the record writer.
-#[derive(Drop)]
+#[derive(Clone, Copy)]
 pub enum RecordAnswer {
     Written,
     Refused(Refusal),
 }
 
 // The answer of a call that writes a log: how many bytes it has written.
-#[derive(Drop)]
+#[derive(Clone, Copy)]
 pub enum LogAnswer {
     Written(usize),
     Refused(Refusal),
 }
 
 // The answer of the segment call: how many segments there are.
-#[derive(Drop)]
+#[derive(Clone, Copy)]
 pub enum SegmentsAnswer {
     Found(usize),
     Refused(Refusal),
 }
 
 // The answer of a query: the rows written, their error, and the cuts weighed on the way.
-#[derive(Drop)]
+#[derive(Clone, Copy)]
 pub enum QueryAnswer {
     Written {
         rows: usize,
@@ -181,7 +182,7 @@ pub enum QueryAnswer {
 }
 
 // The reader's answer: what the header of a slot says, the second byte of its mark first.
-#[derive(Drop)]
+#[derive(Clone, Copy)]
 pub enum ReadAnswer {
     Slot {
         mark: u8,
@@ -193,14 +194,14 @@ pub enum ReadAnswer {
 }
 
 // What the reader gives: its answer, and the rows beside it. Places past the last row are rows of zeros.
-#[derive(Drop)]
+#[derive(Clone, Copy)]
 pub struct Reading {
     pub answer: ReadAnswer,
     pub rows: [Row; MOST_ROWS],
 }
 
 // One step of a walk over a slot's rows.
-#[derive(Drop)]
+#[derive(Clone, Copy)]
 pub enum Step {
     Found(Row),
     End,
@@ -208,14 +209,14 @@ pub enum Step {
 }
 
 // A step, and the number of the row that comes next.
-#[derive(Drop)]
+#[derive(Clone, Copy)]
 pub struct Walked {
     pub step: Step,
     pub next: usize,
 }
 
 // The answer of a lookup: the value of the row that holds the frame.
-#[derive(Drop)]
+#[derive(Clone, Copy)]
 pub enum LookupAnswer {
     Value(u32),
     Uncovered,

@@ -8,7 +8,7 @@ use native.Mathlib.Nat.{add-zero, zero-add}
 use native.Mathlib.Numerals.{add-one}
 use native.Mathlib.Omega.{arith}
 use lib.ListN.{length, get_or, set, take, drop, replicate, length-append, length-map, length-drop, drop_of_length-le}
-use lib.Seq.{get_or-set_same, get_or-set_other, set_at, append_snoc, take_all, take-length, drop-drop}
+use lib.Seq.{get_or-set_same, get_or-set_other, set_at, append_snoc, take_all, drop-drop}
 use Rattle.model.specs.Common.{list_from}
 use Rattle.model.specs.Spans.{Span, nowhere}
 use Rattle.model.specs.Blocks.{segment_at}
@@ -107,9 +107,9 @@ module _ {A B : Type 0} (field : A → B) (pad : B) (size : ℕ) where
 
 -- the part from that place on, with the list over its front, in the part's place
 pub copied_part : {A : Type 0} (at size : ℕ) (from into part : List A) → length into ≡ size
-    → part ≡ take (length from) from ++ drop (length from) (take (size - at) (drop at into))
+    → part ≡ from ++ drop (length from) (take (size - at) (drop at into))
     → take at into ++ (part ++ drop (size - at) (drop at into)) ≡ take at into ++ from ++ drop (at + length from) into
 copied_part at size from into part whole copied =
     let short : length (drop at into) ≤ size - at = omega (arith, length-drop at into) in
-    rw (copied, take-length from, take_all (size - at) (drop at into) short, drop_of_length-le (drop at into) short, append-nil)
+    rw (copied, take_all (size - at) (drop at into) short, drop_of_length-le (drop at into) short, append-nil)
     (rw (drop-drop (length from) at into) (sym (append_assoc (take at into) from (drop (at + length from) into))))

@@ -12,7 +12,7 @@ use lib.ListN.{replicate}
 use Rattle.model.specs.Common.{list_from, number_at, bytes_of}
 use Rattle.model.specs.Spans.{Span, group_count, frame_count, span_length, meets, holds}
 use Rattle.model.specs.Log.{records, meeting, aggregate, greatest_kind, aggregated, value}
-use Rattle.model.specs.Blocks.{block, empty, totals_of, add, totals, row_value}
+use Rattle.model.specs.Blocks.{empty, totals_of, add, totals, row_value}
 use Rattle.model.specs.Split.{most_rows}
 use Rattle.model.specs.Slot.{slot_length, by_bound, row_bytes, rows_bytes, used_bytes, slot_bytes, row_place, slot_mark, slot_kind, slot_count, slot_error, slot_row, slot_rows, value_in}
 use Rattle.model.specs.Questions.{accepted, ask, ask_room, lent, each, marked, kind_known, group_known}

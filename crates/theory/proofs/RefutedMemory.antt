@@ -1,7 +1,6 @@
 -- Wrong answers about a memory that the demands reject, each by the clause that its comment names. The log is G, whose frame 7 of group
 -- 0 is covered with width 2 and not with width 1; or one record of one frame. Assumes nothing.
 use Prim.Native.Nat.{ℕ, ◌*◌, ◌<◌}
-use mathlib.Core.Bool.{true}
 use mathlib.Core.List.{List, [], ◌∷◌, map, Memᴰ}
 use mathlib.Core.Logic.{⊎_elim}
 use mathlib.Core.Option.{Option, none, some}

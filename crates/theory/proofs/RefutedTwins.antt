@@ -1,13 +1,12 @@
 -- Wrong answers that the statements about twin records reject, each by the clause that its comment names: a log of the records a, b
 -- and a again, of which a and b are left. Assumes nothing.
 use Prim.Native.Nat.{ℕ}
-use mathlib.Core.Bool.{true}
 use mathlib.Core.List.{List, [], ◌∷◌, ◌++◌}
 use mathlib.Core.Path.{◌≡◌, refl, sym, ap, ◌∙◌}
 use native.Mathlib.Omega.{arith}
-use lib.ListN.{length, get_or, take}
+use lib.ListN.{length, get_or}
 use Rattle.model.specs.Common.{sum_of, list_from, every, joined, number_at, bytes_of}
-use Rattle.model.specs.Spans.{Span, group_count, frame_count, span_length, meets, adjacent}
+use Rattle.model.specs.Spans.{group_count, frame_count, span_length, meets, adjacent}
 use Rattle.model.specs.Log.{record_length, record_bytes, record_at, record_count, record_part, twins, is_first, firsts_of, without_twins, records, meeting, sum, aggregate, aggregated, value}
 use Rattle.model.specs.Segments.{join, fuse, place, frames_from, groups_from, segments_of}
 use Rattle.model.specs.Blocks.{segment_at, gap, last_gap, block, empty, totals_of, add, totals, squared, error_with, row_of}

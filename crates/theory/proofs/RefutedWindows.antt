@@ -1,6 +1,6 @@
 -- Wrong answers to queries by windows that the demands reject, each by the clause that its comment names. Log G by the scenes 0 to 1,
 -- 2 to 6 and 7 to 65,535 has four rows of kind 0: 100, 510 and 50 of group 0 and 7 of group 1. Assumes nothing.
-use Prim.Native.Nat.{ℕ, ◌≤◌, ◌<◌}
+use Prim.Native.Nat.{ℕ}
 use mathlib.Core.List.{List, [], ◌∷◌, ◌++◌}
 use mathlib.Core.Path.{◌≡◌, refl, sym, ap, ◌∙◌}
 use native.Mathlib.Omega.{arith}

@@ -16,7 +16,7 @@ use lib.Seq.{length-take-le, take_all, take_at, drop-append-add, get_or-take, ge
 use borrow.Author.Tests.{eqb-true, eq-eqb, ltb-true, ltb-false, le-leb, leb-true}
 use Rattle.model.specs.Common.{list_from, every, joined, number_at}
 use Rattle.model.specs.Log.{record_length, record_at, record_count, record_part, twins, is_first, firsts_of, without_twins}
-use Rattle.model.specs.Questions.{ask, each, marked, span_questions, record_questions, most_records, twin_questions, file_questions, log_questions}
+use Rattle.model.specs.Questions.{ask, marked, span_questions, record_questions, most_records, twin_questions, file_questions, log_questions}
 use Rattle.model.specs.Questions.{accepted, without_twins_questions}
 use Rattle.model.specs.Calls.{without_twins_outcome, without_twins_buffer}
 use Rattle.model.specs.Demands.{AllPass, Bytes, Distinct, FirstAt, EachOnce, TwinRecords, FilePromise}

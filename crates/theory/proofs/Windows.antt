@@ -1,7 +1,7 @@
 -- Span aggregation: the windows of a rule are in order, the rows by windows are the span aggregation of a log and the only one, they
 -- can be stored, and windows of one frame give the frames' own values. Assumes nothing.
 use Prim.Native.Nat.{ℕ, zero, suc, ◌+◌, ◌-◌, ◌*◌, ◌/◌, ◌^◌, ◌≤◌, ◌<◌, zero-le}
-use mathlib.Core.Bool.{Bool, true, ◌&&◌}
+use mathlib.Core.Bool.{true, ◌&&◌}
 use mathlib.Core.List.Memᴰ
 use mathlib.Core.List.{List, [], ◌∷◌, ◌++◌, Memᴰ}
 use mathlib.Core.Logic.{◌⊎◌, inl, inr, ⊎_elim, ◌↔◌}
@@ -12,8 +12,8 @@ use native.Mathlib.Omega.{arith}
 use lib.Dec.{leb, ltb, eqb}
 use lib.ListN.{length, get_or}
 use borrow.Author.Tests.{leb-true, ltb-true, lt-ltb, eqb-true, eqb-false}
-use Rattle.model.specs.Common.{list_from, every, joined}
-use Rattle.model.specs.Spans.{Span, group_count, frame_count, meets, holds, nowhere}
+use Rattle.model.specs.Common.{list_from, joined}
+use Rattle.model.specs.Spans.{Span, group_count, frame_count, meets, nowhere}
 use Rattle.model.specs.Log.{records, meeting, aggregated, value}
 use Rattle.model.specs.NoMemory.{plain_value}
 use Rattle.model.specs.Blocks.{segment_at}
