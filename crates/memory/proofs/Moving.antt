@@ -16,7 +16,7 @@ use Rattle.model.specs.declared.Records.{Records}
 use Rattle.theory.proofs.Memory.{later, longer, value_longer}
 use Rattle.theory.proofs.Count.{length_records}
 use Rattle.theory.proofs.Lists.{list_from_cong, map-list_from, after_set}
-use Rattle.log.proofs.Columns.{records_held}
+use Rattle.load_log.proofs.Columns.{records_held}
 use Rattle.memory.specs.Remembered.{Remembers}
 
 -- the last frames of the first `index` records are moved, and nothing else is

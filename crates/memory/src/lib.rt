@@ -1,6 +1,8 @@
 // Load with a memory: the records of a log, as the frames that follow them remember them. A frame remembers a record for as many
 // frames as the memory is wide, so that the record's last frame moves, and the sweep over frames needs to know of no width.
 // Assumes nothing.
+#![tactic(auto)]
+
 ghost use Rattle.std.specs.Prelude.{◌≡◌, ◌+◌, ◌-◌, ◌≤◌, min};
 ghost use Rattle.model.specs.Log.{record_count};
 ghost use Rattle.model.specs.Questions.{most_records};
@@ -26,7 +28,7 @@ pub fn records(log: &[u8], width: u16) -> Records
     requires le_width { 1 ≤ width }
     ensures { Remembers width log.now result }
 {
-    let mut records = log::decode(log);
+    let mut records = load_log::decode(log);
     if width == 1 {
         return records;
     }

@@ -5,7 +5,7 @@ use mathlib.Core.Path.{◌≡◌, refl, sym, ap, ◌∙◌}
 use native.Mathlib.Nat.{sub-zero}
 use native.Mathlib.Omega.{arith}
 use lib.ListN.{length, get_or, set, take, replicate}
-use lib.Seq.{append_snoc, length-take-le, set_at, take-nil, take-suc}
+use lib.Seq.{append_snoc, length-take-le, set_at, take-suc}
 use Rattle.theory.proofs.Lists.{one_more}
 
 -- the first i frames of a list, in so many places

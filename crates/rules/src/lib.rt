@@ -1,5 +1,7 @@
 // A query by a rule: it is put together, with a bound, every so many frames from a start frame on, or by scenes, and its rule is asked
 // its own question. A bound is asked 3, whether or not it came as a rule, and with it the width 25, which windows do not read.
+#![tactic(auto)]
+
 ghost use Rattle.std.specs.Prelude.{◌≡◌, [], ◌∷◌, ◌++◌, true, ◌&&◌, cond, ◌<◌, leb, ltb, eqb, take};
 ghost use Rattle.std.proofs.Math.Option.{none, some};
 ghost use Rattle.model.specs.Common.{is_some};

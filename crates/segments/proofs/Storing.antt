@@ -13,7 +13,7 @@ use Rattle.model.specs.Arrays.{span_in, segments_in, segment_arrays}
 use Rattle.model.specs.declared.Segments.{Segments}
 use Rattle.theory.proofs.SlotLaws.{length-list_from}
 use Rattle.theory.proofs.Lists.{list_from_snoc}
-use Rattle.log.proofs.Columns.{column_snoc, column_again, column_more, segments_held}
+use Rattle.load_log.proofs.Columns.{column_snoc, column_again, column_more, segments_held}
 use Rattle.segments.specs.Steps.{joins, joined, Made}
 use Rattle.segments.proofs.Joining.{joins_last, Apart, Ends, no_end, end, ends, joined_joined, joined_append, joined_le, joined_apart, joins_last_none, joins_last-end, last_joined, last_apart}
 

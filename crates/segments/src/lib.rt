@@ -1,5 +1,6 @@
 // Instant temporal aggregation: from a log's records to its segments, group by group and from event to event. Arrays are lent and
 // never copied.
+#![tactic(auto)]
 
 ghost use Rattle.std.specs.Prelude.{◌≡◌, [], ◌∷◌, ℕ, suc, ◌-◌, ◌≤◌, length};
 ghost use Rattle.model.specs.Spans.{frame_count};
@@ -19,7 +20,7 @@ use model::{
 use tally::{Here, wide};
 
 // The segment call's answer, and the segments beside it: none in a refusal.
-#[derive(Drop)]
+#[derive(Clone, Copy)]
 pub struct Found {
     pub answer: SegmentsAnswer,
     pub segments: Segments,
@@ -241,7 +242,7 @@ fn ask(log: &[u8], kind: u8, width: u16, places: usize) -> Asked
     if !is_width(width) {
         return no(25, 0);
     }
-    log::ask(log)
+    load_log::ask(log)
 }
 
 // The segments of a log, where every question is passed.

@@ -2,6 +2,7 @@
 // first frame comes, how many records meet it, and the value by the kind. An event is a record's first frame or the frame after
 // its last, and a record meets a stretch if it holds some frame of it. The records of a group are put side by side first: the loops
 // over them then have no branch, and the compiler works on eight records at a time. Arrays are lent and never copied.
+#![tactic(auto)]
 
 ghost use Rattle.std.specs.Prelude.{◌≡◌, [], ◌∷◌, ◌++◌, cond, ◌+◌, ◌*◌, ◌/◌, ◌<◌, ◌≤◌, min, max, length};
 ghost use Rattle.std.proofs.Math.Option.{some};
@@ -12,7 +13,7 @@ ghost use Rattle.tally.specs.Tally.{own_in, owns_in, Sized, only_of, held, loads
 use model::MOST_RECORDS;
 
 // A record of the group in hand.
-#[derive(Drop)]
+#[derive(Clone, Copy)]
 pub struct Own {
     pub first: u16,
     pub last: u16,
@@ -21,7 +22,7 @@ pub struct Own {
 
 // What is found of a stretch: the last frame before the next event behind its first frame, how many records meet it, and the sum
 // of their loads.
-#[derive(Drop)]
+#[derive(Clone, Copy)]
 pub struct Here {
     pub stop: u16,
     pub count: u16,

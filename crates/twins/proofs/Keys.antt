@@ -174,7 +174,7 @@ length_kept log i within false = omega arith
 -- a record is copied over the front of a buffer's part
 pub part_put : (log : List ℕ) (i at : ℕ) (buffer bytes part : List ℕ) → 9 * i + 9 ≤ length log
     → bytes ≡ take (9 * i + 9 - 9 * i) (drop (9 * i) log)
-    → part ≡ take (length bytes) bytes ++ drop (length bytes) (take (length buffer - at) (drop at buffer))
+    → part ≡ bytes ++ drop (length bytes) (take (length buffer - at) (drop at buffer))
     → put_mid at (length buffer - at) buffer part ≡ take at buffer ++ record_part log i ++ drop (at + 9) buffer
 unfolding record_part record_length
 part_put log i at buffer bytes part within read copied =

@@ -2,6 +2,8 @@
 // of a record are one number, its key, and of two records that begin with the same byte the keys tell whether they are equal. A key
 // is looked up by its remainder, and compared with all of those ahead of it, in a loop without a branch, only where another key has the
 // same remainder.
+#![tactic(auto)]
+
 ghost use Rattle.std.specs.Prelude.{◌≡◌, ◌++◌, ◌+◌, ◌*◌, ◌<◌, ◌≤◌, length, take, drop};
 ghost use Rattle.model.specs.Common.{joined};
 ghost use Rattle.model.specs.Log.{record_part, firsts_of};
@@ -9,7 +11,7 @@ ghost use Rattle.model.specs.Questions.{outcome, each, twin_questions};
 ghost use Rattle.model.specs.Calls.{asked_case};
 ghost use Rattle.twins.specs.Keys.{Begun, key_of, new_in, Noted, kept_of};
 
-use common::{eight, no, wide};
+use common::{copy, eight, no, wide};
 use model::{Asked, RECORD_LENGTH};
 
 // The places of remainders: a prime number, so that keys which differ by a fixed number have many remainders.
@@ -82,7 +84,7 @@ fn put(log: &[u8], index: usize, buffer: &mut [u8], at: usize, chosen: bool) -> 
     if chosen {
         let from = RECORD_LENGTH * index;
         let to = from + RECORD_LENGTH;
-        bytes::copy(&log[from..to], &mut buffer[at..]);
+        copy(&log[from..to], &mut buffer[at..]);
         return at + RECORD_LENGTH;
     }
     at

@@ -1,5 +1,6 @@
 // Span temporal aggregation: from a log's records to rows by windows, group by group and window by window. Windows that no record
 // of a group meets are passed over together, from one event of the group to the next. Arrays of records are lent and never copied.
+#![tactic(auto)]
 
 ghost use Rattle.std.specs.Prelude.{◌≡◌, ◌<◌, ◌≤◌, min};
 ghost use Rattle.model.specs.Windows.{beat, beat_count, window_count, window_at, windows, span_rows};
@@ -11,14 +12,14 @@ use model::{MOST_GROUP, MOST_RECORDS, MOST_ROWS, MOST_SCENES, Row, Rule, RuledQu
 use rules::is_bound;
 
 // Rows of windows, and how many they are: 65 stands for more than 64, which have no place.
-#[derive(Drop)]
+#[derive(Clone, Copy)]
 pub struct Listing {
     pub rows: [Row; MOST_ROWS],
     pub count: usize,
 }
 
 // From a first frame to a last one.
-#[derive(Drop)]
+#[derive(Clone, Copy)]
 pub struct Stretch {
     pub first: u16,
     pub last: u16,

@@ -1,0 +1,18 @@
+-- `load_log::record_bytes` meets its contract: each byte is a digit of its number to the base 256. Assumes nothing.
+use Rattle.model.specs.Log.{record_bytes}
+use Rattle.model.specs.Calls.{record_span}
+use Rattle.theory.proofs.Numbers.{two_bytes}
+use Rattle.load_log.proofs.record_bytes.Goals as goal
+
+pub returns : goal.returns
+unfolding record_bytes record_span
+returns c =
+    simp (
+      two_bytes,
+      c.low.ensures,
+      c.low-2.ensures,
+      c.low-3.ensures,
+      c.low-4.ensures,
+      c.low-5.ensures,
+      c.low-6.ensures,
+    )

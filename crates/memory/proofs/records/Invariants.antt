@@ -1,0 +1,13 @@
+-- `memory::records` meets its contract. The loop's invariant: the last frames of the first records are moved. Assumes nothing.
+use Prim.Native.Nat.{◌≤◌, ◌-◌}
+use mathlib.Core.Path.{◌≡◌}
+use lib.ListN.{length}
+use Rattle.memory.proofs.Moving.{Moved}
+use Rattle.memory.proofs.records.Given as goal
+
+abbrev pub invariant-loop-index : goal.invariant-loop-index
+invariant-loop-index l =
+    (l.index ≤ l.count) × (l.count ≤ 128) × (length l.initial.records.lasts ≡ 128) × Moved l.width l.initial.records l.records l.index
+
+abbrev pub decreases-loop-index : goal.decreases-loop-index
+decreases-loop-index l = l.count - l.index
