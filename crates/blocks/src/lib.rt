@@ -1,5 +1,7 @@
 // Block totals: how many frames a block has, the sum of its values and that of their squares, frame by frame, and the greatest of
 // them. Totals of neighbours add, and a block's row value and error follow from its kind and its totals alone.
+#![tactic(auto)]
+
 ghost use Rattle.std.specs.Prelude.{◌≡◌, ◌≤◌, max};
 ghost use Rattle.model.specs.Blocks.{totals_of, add, empty, nearest, value_for};
 ghost use Rattle.blocks.specs.Meaning.{totals_in, error_from};
@@ -8,7 +10,7 @@ ghost use Rattle.model.specs.Questions.{most_value};
 
 use model::GREATEST_KIND;
 
-#[derive(Drop)]
+#[derive(Clone, Copy)]
 pub struct Totals {
     pub frames: u64,
     pub sum: u64,

@@ -1,5 +1,7 @@
 // How many rows of the split table a bound has tried, and how many rows answer it: by the errors of all segments for each number of
 // rows. Nothing here knows of segments, values or kinds.
+#![tactic(auto)]
+
 ghost use Rattle.std.specs.Prelude.{◌≡◌, ◌&&◌, not, cond, ℕ, ◌≤◌, ◌<◌, min, ltb, get_or};
 ghost use Rattle.model.specs.Split.{fewest, below};
 ghost use Rattle.choice.specs.Errors.{no_error, error_in};
@@ -8,7 +10,7 @@ ghost use Rattle.choice.specs.Bounds.{last_row, covers_runs, meets_in, Comparabl
 use model::{Bound, MOST_ROWS};
 
 // How many rows answer a bound, if any number does.
-#[derive(Drop)]
+#[derive(Clone, Copy)]
 pub struct Choice {
     pub found: bool,
     pub count: usize,

@@ -1,4 +1,6 @@
 // From a filled split table to the cuts of the reduction that answers a bound, read back from the last row to the first.
+#![tactic(auto)]
+
 ghost use Rattle.std.specs.Prelude.{◌≡◌, ◌++◌, ℕ, ◌≤◌, length, drop};
 ghost use Rattle.choice.specs.Bounds.{FilledColumn};
 ghost use Rattle.cuts.specs.Held.{cuts_in, Readable, ascending, Fills, no_reduction, reduction_for, cuts_for};
@@ -9,7 +11,7 @@ use model::Bound;
 
 // The reduction that answers a bound: whether there is one, its number of rows, its error and the cuts weighed. Its cuts stand in a
 // list that is lent.
-#[derive(Drop)]
+#[derive(Clone, Copy)]
 pub struct Reduction {
     pub found: bool,
     pub count: usize,

@@ -1,5 +1,7 @@
 // What each block of segments costs, worked out once: the squared error of the row value that the kind gives it, at the block's
 // place. This crate alone knows how a block's cost follows from its segments.
+#![tactic(auto)]
+
 ghost use Rattle.std.specs.Prelude.{◌≡◌, ℕ, ◌+◌, ◌≤◌, ◌<◌, length};
 ghost use Rattle.measures.specs.Held.{Measurable};
 ghost use Rattle.triangle.specs.Places.{row_start, error_at, gap_at, Agree};

@@ -1,5 +1,7 @@
 // What is measured of segments in arrays: where runs begin, how many there are, and the totals of a block. Groups play no part in
 // what a block costs, and values none in where it may be cut.
+#![tactic(auto)]
+
 ghost use Rattle.std.specs.Prelude.{◌≡◌, cond, List, [], ℕ, suc, ◌-◌, ◌<◌, ◌≤◌, get_or, replicate};
 ghost use Rattle.model.specs.Blocks.{gap, totals, add};
 ghost use Rattle.model.specs.Split.{gap_below, runs};

@@ -1,4 +1,6 @@
 // The rows of a reduction, from its cuts: each block's group, first and last frame, and row value.
+#![tactic(auto)]
+
 ghost use Rattle.std.specs.Prelude.{◌≡◌, ◌<◌, ◌≤◌};
 ghost use Rattle.model.specs.Calls.{row_of_span};
 ghost use Rattle.model.specs.Blocks.{row_value, row_of};

@@ -56,7 +56,7 @@ module _ (segs : List (Span ℕ)) (few : length segs ≤ 255) (err : ℕ → ℕ
   costs_by =
       record {
         few = few;
-        gap_below_lem = gap_below_lem;
+        gap_below = gap_below_lem;
         block_le = λ j i above lt le. range j i (omega arith) le;
         least_le = λ k i t le e.
             let (is, q) = sound err (last_gap (segment_at segs)) widens k i t e in

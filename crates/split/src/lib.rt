@@ -1,5 +1,7 @@
 // The exact reduction of segments to the rows that a bound asks for: runs and gaps are measured, each block's error is worked out once,
 // and the split table is filled by them. The errors have as many places as the segments need, by classes of their number.
+#![tactic(auto)]
+
 ghost use Rattle.std.specs.Prelude.{◌≡◌, true, ◌+◌, ◌-◌, ◌≤◌, length, replicate};
 ghost use Rattle.model.specs.Arrays.{spans_in};
 ghost use Rattle.model.specs.Split.{runs};

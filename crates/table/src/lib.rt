@@ -1,5 +1,7 @@
 // The split table: entry (k,i), at (k − 1) × 256 + i, is the last cut of the least error of the first i segments in k rows. It is filled
 // by errors of blocks and last gaps alone: nothing here knows of values, lengths or kinds.
+#![tactic(auto)]
+
 ghost use Rattle.std.specs.Prelude.{◌≡◌, true, cond, ℕ, ◌+◌, ◌-◌, ◌*◌, ◌<◌, ◌≤◌, max, eqb, length, get_or, replicate};
 ghost use Rattle.std.proofs.Math.Option.{none, some};
 ghost use Rattle.model.specs.Split.{least, weigh, rows_tried};
@@ -20,7 +22,7 @@ use triangle::row_start;
 pub const NONE: u64 = 4611686018427387904;
 
 // The best candidate so far: its total, its cut, and how many candidates were tried.
-#[derive(Drop)]
+#[derive(Clone, Copy)]
 pub struct Best {
     pub total: u64,
     pub cut: usize,

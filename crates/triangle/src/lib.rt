@@ -1,5 +1,7 @@
 // The errors of all blocks that cross no gap, each at a place of its own in one list of numbers: what a block costs is worked out
 // once and read by whatever shares rows out. The places are lent, as many as the segments need.
+#![tactic(auto)]
+
 ghost use Rattle.std.specs.Prelude.{◌≡◌, ◌≤◌, replicate};
 ghost use Rattle.triangle.specs.Places.{row_start};
 
