@@ -1,5 +1,7 @@
 // A slot against its log: questions 1 and 25, the log's, the slot's as one by a bound, and then whether its rows cover just the covered frames (22),
 // no row of kind 3 is below a covered value (23), and the error is the rows' squared error (24).
+#![tactic(auto)]
+
 ghost use Rattle.std.specs.Prelude.{◌≡◌, true, cond, [], ◌∷◌, ◌≤◌, eqb, length};
 ghost use Rattle.model.specs.Log.{records, greatest_kind, value};
 ghost use Rattle.model.specs.Slot.{by_bound, slot_kind, slot_error, slot_rows};
@@ -83,7 +85,7 @@ pub fn check(log: &[u8], width: u16, slot: &[u8]) -> Asked
     if !is_width(width) {
         return no(25, 0);
     }
-    let logged = log::ask(log);
+    let logged = load_log::ask(log);
     let bounded = ask_bounded(slot);
     let asked = then(logged, bounded);
     match asked {

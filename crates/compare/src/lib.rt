@@ -1,6 +1,8 @@
 // A slot's rows beside the segments of a log: whether they cover the same frames, whether no row is below a segment, and the squared
 // error of the rows. Both are walked together, and what the two at hand have in common is taken off both, so that the work goes by rows
 // and segments and not by frames.
+#![tactic(auto)]
+
 ghost use Rattle.std.specs.Prelude.{◌≡◌, cond, ◌+◌, ◌*◌, ◌<◌, min, max, pos};
 ghost use Rattle.model.specs.Blocks.{squared};
 ghost use Rattle.model.specs.Slot.{slot_rows};
@@ -16,7 +18,7 @@ use model::{MOST_SEGMENTS, Row, Segment};
 use slot::place_of;
 
 // What is found: whether the frames covered are the same, and, where they are, whether no row is below a segment, and the error.
-#[derive(Drop)]
+#[derive(Clone, Copy)]
 pub struct Compared {
     pub same: bool,
     pub reaches: bool,
@@ -25,7 +27,7 @@ pub struct Compared {
 
 // The front of a row and a segment: whether the two begin together, the place where the segment begins, the place behind what they have
 // in common, and whether nothing is left of the one or the other there.
-#[derive(Drop)]
+#[derive(Clone, Copy)]
 struct Front {
     pub together: bool,
     pub first: u32,

@@ -5,7 +5,7 @@ use mathlib.Core.Path.{◌≡◌, refl, sym, ap, ap₂, ◌∙◌}
 use native.Mathlib.Omega.{arith}
 use native.Mathlib.Numerals.{add-one}
 use lib.ListN.{length, get_or, take, drop, replicate, length-append, length-replicate, replicate-append-replicate}
-use lib.Seq.{take-length, take_at, drop_at, drop-drop}
+use lib.Seq.{take_at, drop_at, drop-drop}
 use borrow.Rule.Slice.PartMut.{put_mid}
 use Rattle.model.specs.Common.{list_from, bytes_of}
 use Rattle.model.specs.Spans.{Span, nowhere}
@@ -56,10 +56,10 @@ module _ (mark kind error count : ℕ) (rows : List Row) where
 
   -- the header is copied over zeros
   pub start : (slot header : List ℕ) → slot ≡ zeros 768 → header ≡ 0x50 ∷ mark ∷ kind ∷ count ∷ bytes_of 8 error
-      → take (length header) header ++ drop (length header) slot ≡ so_far 0
+      → header ++ drop (length header) slot ≡ so_far 0
   unfolding so_far used rows_in list_from rows_bytes bytes_of
   start slot header e h =
-      rw (take-length header, h, e)
+      rw (h, e)
       (ap (λ (l : List ℕ). 0x50 ∷ mark ∷ kind ∷ count ∷ (bytes_of 8 error ++ l)) (drop_zeros 12 768 (omega arith)))
 
   -- one row is copied behind those in place
@@ -74,7 +74,7 @@ module _ (mark kind error count : ℕ) (rows : List Row) where
   -- the row is copied over the front of the slot's part from its place on
   pub turn : (i at : ℕ) (slot row part : List ℕ) → i < 64 → slot ≡ so_far i → at ≡ row_place i
       → row ≡ row_bytes (row_span (get_or rows i (row_of_span nowhere)))
-      → part ≡ take (length row) row ++ drop (length row) (take (768 - at) (drop at slot))
+      → part ≡ row ++ drop (length row) (take (768 - at) (drop at slot))
       → put_mid at (768 - at) slot part ≡ so_far (i + 1)
   unfolding so_far row_place
   turn i at slot row part lt b a r p =

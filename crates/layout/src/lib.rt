@@ -1,11 +1,13 @@
 // A slot is laid out: header, rows and zeros in an array of bytes, and the array stored in a lent slot.
+#![tactic(auto)]
+
 ghost use Rattle.std.specs.Prelude.{◌≡◌, ◌∷◌, ◌++◌, ◌≤◌, length, drop};
 ghost use Rattle.model.specs.Common.{bytes_of};
 ghost use Rattle.model.specs.Slot.{row_bytes, slot_bytes};
 ghost use Rattle.model.specs.Calls.{row_span};
 ghost use Rattle.model.specs.Arrays.{rows_in};
 
-use common::{low, no_slot, place};
+use common::{copy, low, no_slot, place};
 use model::{MOST_ROWS, Row, SLOT_LENGTH};
 
 // A slot's header: mark, whose second byte is given, kind, row count and error.
@@ -64,12 +66,12 @@ pub fn layout(
 {
     let mut slot = no_slot();
     let header = header_bytes(mark, kind, count, error);
-    bytes::copy(&header, &mut slot);
+    copy(&header, &mut slot);
     let mut i: usize = 0;
     while i < count {
         let row = row_bytes(rows[i]);
         let at = place(i);
-        bytes::copy(&row, &mut slot[at..]);
+        copy(&row, &mut slot[at..]);
         i += 1;
     }
     slot
@@ -80,5 +82,5 @@ pub fn store(bytes: [u8; SLOT_LENGTH], slot: &mut [u8])
     requires { 768 ≤ length slot.old }
     ensures { slot.new ≡ bytes ++ drop 768 slot.old }
 {
-    bytes::copy(&bytes, slot);
+    copy(&bytes, slot);
 }

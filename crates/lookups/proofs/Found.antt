@@ -19,7 +19,7 @@ use Rattle.theory.proofs.SlotLaws.{rows_passed}
 use Rattle.theory.proofs.InOrder.{row_held, two_small}
 use Rattle.theory.proofs.Lists.{list_from_left, all_left}
 use Rattle.slot.specs.Places.{place_of, least_place}
-use Rattle.slot.proofs.Compared.{in_order}
+use Rattle.slot.proofs.Compared.{in_order_lem}
 use Rattle.lookups.specs.Ends.{end_of, EndInOrder, Reached}
 
 -- what goes up from each to the next goes up from each to every later one
@@ -66,7 +66,7 @@ module _ (slot : List ℕ) (small : Bytes slot) (all : AllPass (slot_questions s
   unfolding row_questions ask least_place end_of
   begins_behind i lt =
       let ordered = all_head _ _ (all_tail _ _ (all_tail _ _ (rows_passed slot all (suc i) lt))) in
-      let least = leb-true (least_place slot (suc i)) (start_of (suc i)) (sym (in_order slot small (suc i)) ∙ ordered) in
+      let least = leb-true (least_place slot (suc i)) (start_of (suc i)) (sym (in_order_lem slot small (suc i)) ∙ ordered) in
       omega (arith, least)
 
   -- 15: it does not begin behind its own end

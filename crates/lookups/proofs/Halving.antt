@@ -2,7 +2,7 @@
 use Prim.Native.Nat.{ℕ, ◌+◌, ◌-◌, ◌/◌, ◌≤◌, ◌<◌}
 use mathlib.Core.List.{List}
 use native.Mathlib.Omega.{arith}
-use Rattle.lookups.specs.Ends.{end_of, EndInOrder, Reached}
+use Rattle.lookups.specs.Ends.{end_of, EndInOrder}
 
 module _ (slot : List ℕ) (count place : ℕ) where
   -- rows below `at` end before the place, and those behind the `size` from there on do not
@@ -11,12 +11,6 @@ module _ (slot : List ℕ) (count place : ℕ) where
       (at + size ≤ count)
       × ((i : ℕ) → i < at → end_of slot i < place)
       × ((i : ℕ) → at + size ≤ i → i < count → place ≤ end_of slot i)
-
-  pub all_between : Between 0 count
-  all_between = (omega arith, λ i lt. absurd (omega (arith, lt)), λ i le lt. absurd (omega (arith, le, lt)))
-
-  pub none_between : (at : ℕ) → Between at 0 → Reached slot count place at
-  none_between at (fits, before, behind) = (omega (arith, fits), before, λ lt. behind at (omega arith) lt)
 
   module _ (ends : EndInOrder slot count) (at size : ℕ) (some : 0 < size) (between : Between at size) where
     -- the row in the middle

@@ -10,42 +10,48 @@ use Rattle.model.specs.Demands.{LookupsPromise}
 use Rattle.theory.proofs.Refusals.{passed_lent, refused_lent}
 use Rattle.theory.proofs.Lookups.{lookups_promise}
 
-module _ (slot groups frames values covered : List ℕ) (says : Outcome (Unit {0}))
-    (is : says ≡ lookups_outcome slot groups (length frames) (length values) (length covered)) where
+module _ (slot groups frames values covered : List ℕ) (said : Outcome (Unit {0}))
+    (is : said ≡ lookups_outcome slot groups (length frames) (length values) (length covered)) where
   -- what is said is as defined, and with lists left as defined the promise is kept
   abbrev Leaves : List ℕ → List ℕ → Type 0
-  Leaves values_after covered_after =
-      (says ≡ lookups_outcome slot groups (length frames) (length values) (length covered))
-      × ((values_after ≡ lookups_values slot groups frames values covered)
-      × ((covered_after ≡ lookups_covered slot groups frames values covered)
-      × LookupsPromise slot groups frames values covered says values_after covered_after))
+  Leaves values_after covered_after = record {
+    says : said ≡ lookups_outcome slot groups (length frames) (length values) (length covered);
+    found : values_after ≡ lookups_values slot groups frames values covered;
+    flagged : covered_after ≡ lookups_covered slot groups frames values covered;
+    promise : LookupsPromise slot groups frames values covered said values_after covered_after;
+  }
 
   leaves : (values_after covered_after : List ℕ) → values_after ≡ lookups_values slot groups frames values covered
       → covered_after ≡ lookups_covered slot groups frames values covered → Leaves values_after covered_after
-  leaves values_after covered_after v c = (is, (v, (c, rw (is, v, c) (lookups_promise slot groups frames values covered))))
+  leaves values_after covered_after v c = record {
+    says = is;
+    found = v;
+    flagged = c;
+    promise = rw (is, v, c) (lookups_promise slot groups frames values covered);
+  }
 
   -- one of the lists
   module _ (shown : Option ℕ → ℕ) (list : List ℕ) where
     abbrev after : List ℕ
     after = lookups_list shown slot groups frames (length values) (length covered) list
 
-    untouched : (says ≡ accepted tt → ⊥) → list ≡ after
+    untouched : (said ≡ accepted tt → ⊥) → list ≡ after
     unfolding lookups_outcome lookups_list
-    untouched refuses = by says refl
+    untouched refuses = by said refl
       where
-        by : (o : Outcome (Unit {0})) → says ≡ o → list ≡ after
+        by : (o : Outcome (Unit {0})) → said ≡ o → list ≡ after
         by (accepted u) e = absurd (refuses e)
         by (refused n i) e = sym (refused_lent (lookups_questions slot groups (length frames) (length values) (length covered)) tt n i _ _ (sym is ∙ e))
 
-    written : says ≡ accepted tt → pairs_shown shown slot groups frames list ≡ after
+    written : said ≡ accepted tt → pairs_shown shown slot groups frames list ≡ after
     unfolding lookups_outcome lookups_list
     written e = sym (passed_lent (lookups_questions slot groups (length frames) (length values) (length covered)) tt _ _ (sym is ∙ e))
 
-  pub refused_leaves : (says ≡ accepted tt → ⊥) → Leaves values covered
+  pub refused_leaves : (said ≡ accepted tt → ⊥) → Leaves values covered
   unfolding lookups_values lookups_covered
   refused_leaves refuses = leaves values covered (untouched value_shown values refuses) (untouched covered_shown covered refuses)
 
-  pub passed_leaves : says ≡ accepted tt
+  pub passed_leaves : said ≡ accepted tt
       → Leaves (pairs_shown value_shown slot groups frames values) (pairs_shown covered_shown slot groups frames covered)
   unfolding lookups_values lookups_covered
   passed_leaves e = leaves _ _ (written value_shown values e) (written covered_shown covered e)

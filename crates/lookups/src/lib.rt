@@ -1,6 +1,8 @@
 // Many lookups as a set: pairs of group and frame, given as two lists, are answered into two lent lists, one of values and one of
 // covered or not. Every question is asked before a place is written, so that a refusal leaves both lists as they were. The slot is
 // asked once; its rows are in order once it has passed, and each pair's row is then found by halving.
+#![tactic(auto)]
+
 ghost use Rattle.std.specs.Prelude.{◌≡◌, true, [], ◌∷◌, ◌↔◌, ◌≤◌, leb, length};
 ghost use Rattle.model.specs.Slot.{slot_rows, value_in};
 ghost use Rattle.model.specs.Questions.{ask, outcome, accepted, each, slot_questions};
@@ -69,7 +71,7 @@ fn reach(slot: &[u8], count: usize, place: u32) -> usize
 }
 
 // What is written for a pair: the value of the row that holds its frame and 1, or 0 and 0 where there is none.
-#[derive(Drop)]
+#[derive(Clone, Copy)]
 struct Shown {
     value: u32,
     covered: u8,

@@ -1,5 +1,7 @@
 // A slot is read, walked row by row and looked up. Each call asks the slot's questions first; a slot that is handed in may
 // hold any bytes, of any length.
+#![tactic(auto)]
+
 ghost use Rattle.std.specs.Prelude.{◌≡◌, cond, ◌≤◌, ltb, length};
 ghost use Rattle.std.proofs.Math.Option.{some, none};
 ghost use Rattle.model.specs.Common.{list_from};

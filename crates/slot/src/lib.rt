@@ -1,4 +1,6 @@
 // A slot's rows and its questions, 1 and 11 to 17. A slot that is handed in may hold any bytes, of any length.
+#![tactic(auto)]
+
 ghost use Rattle.std.specs.Prelude.{◌≡◌, ◌+◌, ◌≤◌, ◌<◌, length, take};
 ghost use Rattle.model.specs.Slot.{slot_row};
 ghost use Rattle.model.specs.Questions.{outcome, each, marked, row_known, row_questions, error_known, header_marked, slot_questions};

@@ -1,6 +1,8 @@
 // Whether bytes are all zero: question 17's test of what stands behind a slot's rows. Eight bytes at a time are gathered into a
 // word; the words are or-ed together and compared once, so that no loop over them has a branch. The odd bytes behind the last
 // whole word are compared singly.
+#![tactic(auto)]
+
 ghost use Rattle.std.specs.Prelude.{◌≡◌, ◌+◌, ◌-◌, ◌*◌, ◌≤◌, eqb, length};
 ghost use Rattle.model.specs.Questions.{zeros};
 
