@@ -1,5 +1,7 @@
 // The answers of the tool's calls as C structs. The question is 0 where a call is accepted; in a refusal every other field but
 // the index is 0, and so are a row's fields where there is no row.
+#![tactic(auto)]
+
 ghost use Rattle.std.specs.Prelude.{◌≡◌};
 ghost use Rattle.model.specs.Calls.{asked_case, record_case, log_case, query_case, segments_case, read_case, step_case, lookup_case};
 ghost use Rattle.answers.specs.Fields.{asked_fields, log_fields, query_fields, segments_fields, read_fields, step_fields, lookup_fields, no_row};
@@ -10,7 +12,7 @@ use model::{
 
 // Of a call that has nothing more to say than whether it is accepted: the record writer and the check.
 #[repr(C)]
-#[derive(Drop)]
+#[derive(Clone, Copy)]
 pub struct CAnswer {
     pub question: u8,
     pub index: usize,
@@ -18,7 +20,7 @@ pub struct CAnswer {
 
 // `length` is the number of bytes written.
 #[repr(C)]
-#[derive(Drop)]
+#[derive(Clone, Copy)]
 pub struct CLogAnswer {
     pub question: u8,
     pub index: usize,
@@ -26,7 +28,7 @@ pub struct CLogAnswer {
 }
 
 #[repr(C)]
-#[derive(Drop)]
+#[derive(Clone, Copy)]
 pub struct CQueryAnswer {
     pub question: u8,
     pub index: usize,
@@ -36,7 +38,7 @@ pub struct CQueryAnswer {
 }
 
 #[repr(C)]
-#[derive(Drop)]
+#[derive(Clone, Copy)]
 pub struct CSegmentsAnswer {
     pub question: u8,
     pub index: usize,
@@ -45,7 +47,7 @@ pub struct CSegmentsAnswer {
 
 // `mark` is the second byte of the header's mark.
 #[repr(C)]
-#[derive(Drop)]
+#[derive(Clone, Copy)]
 pub struct CReadAnswer {
     pub question: u8,
     pub index: usize,
@@ -57,7 +59,7 @@ pub struct CReadAnswer {
 
 // `found` is 1 for a row, and `next` the number of the row that comes next.
 #[repr(C)]
-#[derive(Drop)]
+#[derive(Clone, Copy)]
 pub struct CStepAnswer {
     pub question: u8,
     pub index: usize,
@@ -71,7 +73,7 @@ pub struct CStepAnswer {
 
 // `covered` is 1 where a row holds the frame.
 #[repr(C)]
-#[derive(Drop)]
+#[derive(Clone, Copy)]
 pub struct CLookupAnswer {
     pub question: u8,
     pub index: usize,

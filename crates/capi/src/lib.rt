@@ -1,6 +1,8 @@
 // The tool's calls with the C calling convention, for programs in C and Rust; `include/pacer.h` declares them. A slice is a
 // pointer and a length there. Each call answers every input, says by equation with the definitions what it answers and what
 // the places lent to it hold afterwards, and has no `requires`.
+#![tactic(auto)]
+
 ghost use Rattle.std.specs.Prelude.{◌≡◌, length};
 ghost use Rattle.model.specs.Questions.{Outcome};
 ghost use Rattle.model.specs.Demands.{LetterPromise};

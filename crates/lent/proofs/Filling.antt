@@ -21,7 +21,7 @@ use Rattle.theory.proofs.Refusals.{all_head, all_tail, outcome_accepted, all_len
 use Rattle.theory.proofs.Asking.{file_passed}
 use Rattle.theory.proofs.Count.{segment_count}
 use Rattle.theory.proofs.SlotLaws.{length-list_from}
-use Rattle.log.proofs.Columns.{segments_held}
+use Rattle.load_log.proofs.Columns.{segments_held}
 use Rattle.lent.specs.Rows.{rows_said, rows_read, held_rows}
 use Rattle.lent.specs.declared.rows.Rows.{Rows}
 

@@ -1,5 +1,3 @@
--- The law of the walker's answers, and what the proofs of the list's functions and of the loops cite.
+-- The law of the walker's answers, and what the proofs of the list's functions cite.
 pub mod Walks
 pub mod Filling
-pub mod Counting
-pub mod Element

@@ -1,5 +1,6 @@
-// The calls that lend a list of structs or hold a slice in a struct: thin layers, proved by hand, over crates that take
-// slices and arrays.
+// The calls that lend a list of structs or hold a slice in a struct: thin layers over crates that take slices and arrays.
+#![tactic(auto)]
+
 pub mod list;
 pub mod rows;
 pub mod walker;

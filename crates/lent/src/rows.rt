@@ -7,14 +7,14 @@ ghost use Rattle.lent.specs.Rows.{rows_said, rows_read, held_rows};
 use model::{MOST_ROWS, ReadAnswer, Refusal, Row};
 
 // Rows, in the first `count` places.
-#[derive(Drop)]
+#[derive(Clone, Copy)]
 pub struct Rows {
     pub rows: [Row; MOST_ROWS],
     pub count: usize,
 }
 
 // The reader's answer, and the rows beside it: none in a refusal.
-#[derive(Drop)]
+#[derive(Clone, Copy)]
 pub struct Listed {
     pub answer: ReadAnswer,
     pub rows: Rows,

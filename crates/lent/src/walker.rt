@@ -6,14 +6,14 @@ ghost use Rattle.lent.specs.Walk.{number_after};
 
 use model::Step;
 
-#[derive(Drop)]
+#[derive(Clone, Copy)]
 pub struct Walker<'a> {
     pub slot: &'a [u8],
     pub next: usize,
 }
 
 // A step, and the walker after it.
-#[derive(Drop)]
+#[derive(Clone, Copy)]
 pub struct Stepped<'a> {
     pub walker: Walker<'a>,
     pub step: Step,

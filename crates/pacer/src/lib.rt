@@ -1,6 +1,8 @@
 // The tool's calls. Each answers every input and says by equation with the definitions what it answers and what the places
 // lent to it hold afterwards. A query promises besides, in one record, the third demand, that its rows are best, and that any
 // order of the log's records gives the same.
+#![tactic(auto)]
+
 ghost use Rattle.std.specs.Prelude.{◌≡◌, true, cond, ◌++◌, ◌≤◌, length, drop};
 ghost use Rattle.std.proofs.Math.Option.{none};
 ghost use Rattle.model.specs.Windows.{bound_in};
@@ -22,7 +24,7 @@ use preparing::{Prepared, is_written, prepare_by_bound, prepare_by_windows, refu
 use rules::{bound_of, is_bound};
 
 // A query's answer, and what the reader made of the slot after it.
-#[derive(Drop)]
+#[derive(Clone, Copy)]
 pub struct Queried {
     pub answer: QueryAnswer,
     pub reading: Reading,
@@ -33,7 +35,7 @@ pub fn write_record(record: Record, buffer: &mut [u8]) -> RecordAnswer
     ensures says { record_case result ≡ write_outcome (record_span «record») (length buffer.old) }
     ensures holds { buffer.new ≡ written_buffer (record_span «record») buffer.old }
 {
-    log::write_record(record, buffer)
+    load_log::write_record(record, buffer)
 }
 
 // Writes a log on file to the front of a buffer, with the first of equal records and the others in their order, or tells which
@@ -43,7 +45,7 @@ pub fn without_twins(log: &[u8], buffer: &mut [u8]) -> LogAnswer
     ensures holds { buffer.new ≡ without_twins_buffer log.now buffer.old }
     ensures promise { FilePromise log.now (log_case result) buffer.new }
 {
-    log::without_twins(log, buffer)
+    load_log::without_twins(log, buffer)
 }
 
 // Answers a query about a log: writes the best rows, or those of its windows, into the slot, or tells which question refused it and

@@ -30,7 +30,7 @@ use Rattle.model.specs.declared.QueryAnswer.TheVariants.{Refused}
 use Rattle.theory.proofs.Tests.{none≢some, some_inj, cases}
 use Rattle.theory.proofs.Refusals.{all_tail, all_lent, outcome_accepted, outcome_behind, refused_lent, refused_first}
 use Rattle.theory.proofs.SlotLaws.{list_from-of}
-use Rattle.log.proofs.Columns.{map_at}
+use Rattle.load_log.proofs.Columns.{map_at}
 use Rattle.choice.specs.Bounds.{Known}
 use Rattle.windows.specs.Listed.{Lists}
 use Rattle.windows.specs.declared.Listing.{Listing}

@@ -1,5 +1,5 @@
 -- A query's answer and slot as they are prepared: the questions in two parts, and the slot of a reduction or of rows by windows.
-use Rattle.std.specs.Prelude.{ℕ, Bool, true, false, cond, List, [], ◌∷◌, ◌++◌, leb, length, replicate}
+use Rattle.std.specs.Prelude.{ℕ, Bool, true, false, cond, List, ◌∷◌, ◌++◌, leb, length, replicate}
 use Rattle.std.proofs.Math.Option.{Option, none, some}
 use Rattle.model.specs.Spans.{Span}
 use Rattle.model.specs.Split.{most_rows, Reduced}

@@ -1,5 +1,7 @@
 // A query's answer and slot, worked out before anything lent is touched: its questions, and the bytes of a slot with the rows of a
 // reduction of the log's segments, or with rows by windows.
+#![tactic(auto)]
+
 ghost use Rattle.std.specs.Prelude.{◌≡◌, List, ◌≤◌};
 ghost use Rattle.std.proofs.Math.Option.{none};
 ghost use Rattle.model.specs.Split.{reduced};
@@ -20,7 +22,7 @@ use model::{
 use rules::{ask_bound, ask_windows};
 
 // The answer to a query, and the bytes of its slot: zeros in a refusal.
-#[derive(Drop)]
+#[derive(Clone, Copy)]
 pub struct Prepared {
     pub answer: QueryAnswer,
     pub bytes: [u8; 768],
@@ -66,7 +68,7 @@ fn ask(kind: u8, rule: Asked, log: &[u8], room: usize) -> Asked
 {
     let asked = ask_query(kind, rule, room);
     match asked {
-        Asked::Passed => log::ask(log),
+        Asked::Passed => load_log::ask(log),
         Asked::Refused(refusal) => Asked::Refused(refusal),
     }
 }
@@ -126,7 +128,7 @@ fn list(query: RuledQuery, log: &[u8]) -> Prepared
     requires { AllPass (ruled_order query log.now) }
     ensures { result ≡ laid_out by_windows 20 query.kind (listed (window_rows query log.now)) }
 {
-    let records = log::decode(log);
+    let records = load_log::decode(log);
     let listing = windows::rows(
         &records.groups,
         &records.firsts,

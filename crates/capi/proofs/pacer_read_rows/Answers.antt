@@ -1,0 +1,9 @@
+-- `pacer_read_rows` meets its contract: the fields of the reader's answer, and the list as it leaves it. Assumes nothing.
+use mathlib.Core.Path.{ap, ◌∙◌}
+use Rattle.answers.specs.Fields.{read_fields}
+use Rattle.capi.proofs.pacer_read_rows.Goals as goal
+
+pub returns : goal.returns
+returns c =
+    let e = c.read_into-answer.ensures in
+    (c.of_read.ensures ∙ ap read_fields e.0, e.1)
