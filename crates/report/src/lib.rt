@@ -1,4 +1,6 @@
 // What the program prints, from what it reads: a query and its log as bytes, and the answer as text.
+#![tactic(auto)]
+
 ghost use Rattle.std.specs.Prelude.{◌≡◌, ◌≤◌, length, take};
 ghost use Rattle.text.specs.Text.{refusal_text};
 ghost use Rattle.report.specs.Report.{query_text, profile_text};

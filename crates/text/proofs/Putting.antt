@@ -35,12 +35,14 @@ take-put_at out bytes fits =
 
 -- bytes copied over the part of a buffer from place `at` on are put there
 pub put_copied : {out : List ℕ} {at : ℕ} {bytes part : List ℕ} {next : ℕ} → Room out at bytes
-    → part ≡ take (length bytes) bytes ++ drop (length bytes) (take (length out - at) (drop at out))
+    → part ≡ bytes ++ drop (length bytes) (take (length out - at) (drop at out))
     → next ≡ at + length bytes
     → Put out at bytes (take at out ++ (part ++ drop (length out - at) (drop at out))) next
 put_copied {out} {at} {bytes} {part} room copied behind =
     record {
-      buffer = copied_part at (length out) bytes out part refl copied ∙ sym (put_at_sets out at bytes ∙ sets-eq bytes out at room.fits);
+      buffer =
+          copied_part at (length out) bytes out part refl copied
+          ∙ sym (put_at_sets out at bytes ∙ sets-eq bytes out at room.fits);
       end = behind;
     }
 

@@ -20,7 +20,7 @@ pub record Narrow (r : Row) : Type 0 where
 narrow : (r : Row) (vs : List Val) → Is (row the_type) r vs → Narrow r
 narrow r vs p = record { group = omega arith; first = omega arith; last = omega arith; value = omega arith }
 
-each_narrow : (rows : List Row) (us : List Val) → shadow (each Row (row the_type).own rows us)
+each_narrow : (rows : List Row) (us : List Val) → shadow (each Row (row the_type).own_val rows us)
     → (i : ℕ) (r : Row) → i < length rows → Narrow (get_or rows i r)
 each_narrow [] us p i r below = absurd (omega arith)
 each_narrow (x ∷ rows) [] p i r below = absurd p

@@ -1,11 +1,14 @@
 // An answer as text. Each function puts the bytes that specs/Text.antt says into a lent buffer, from a place on, and gives
 // the place after them.
+#![tactic(auto)]
+
 ghost use Rattle.std.specs.Prelude.{◌≤◌, ◌≡◌, [], ◌∷◌, ◌++◌, length, take};
 ghost use Rattle.model.specs.Calls.{query_case, row_span};
 ghost use Rattle.model.specs.Arrays.{rows_in};
 ghost use Rattle.text.specs.Text.{decimal, number_line, refusal_text, row_text, rows_text, answer_text};
 ghost use Rattle.text.specs.Put.{Room, Put, row_count, answer_room, accepted_text};
 
+use common::copy;
 use model::{MOST_ROWS, QueryAnswer, Refusal, Row};
 
 const SPACE: u8 = 0x20;
@@ -28,7 +31,7 @@ pub fn put_number(out: &mut [u8], at: usize, n: u64) -> usize
 {
     let mut digits = [0u8; 20];
     let count = io::decimal(n, &mut digits);
-    bytes::copy(&digits[..count], &mut out[at..]);
+    copy(&digits[..count], &mut out[at..]);
     at + count
 }
 
