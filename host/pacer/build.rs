@@ -19,7 +19,7 @@ fn main() {
     println!("cargo:rerun-if-changed={}", archive.display());
     if !archive.is_file() {
         println!(
-            "cargo:warning={} is missing: run `rt staticlib capi`, or name its folder in PACER_LIB_DIR",
+            "cargo:warning={} is missing: run `tools/build capi`, or name its folder in PACER_LIB_DIR",
             archive.display()
         );
     }

@@ -1075,7 +1075,7 @@ fn main() {
         .and_then(|word| word.parse().ok())
         .unwrap_or(51);
     let mut report = Report::new(rounds, &PLAIN);
-    println!("The proved library (as `rt staticlib` built it) against the same algorithm in plain safe Rust");
+    println!("The proved library (as `rt lib` built it) against the same algorithm in plain safe Rust");
     println!("(built for release), in one process: the same inputs, in turns, {rounds} rounds.");
     println!("'plain' works a block's error out for every candidate; 'keeping' works each out once per query,");
     println!("into a list that is reused from query to query and not cleared.");
