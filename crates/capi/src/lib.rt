@@ -1,6 +1,6 @@
-// The tool's calls with the C calling convention, for programs in C and Rust; `include/pacer.h` declares them. A slice is a
-// pointer and a length there. Each call answers every input, says by equation with the definitions what it answers and what
-// the places lent to it hold afterwards, and has no `requires`.
+// The tool's calls over numbers, slices and the structs of C, as `include/pacer.h` declares them; the crate `capi_c` exports them. Each
+// call answers every input, says by equation with the definitions what it answers and what the places lent to it hold
+// afterwards, and has no `requires`.
 #![tactic(auto)]
 
 ghost use Rattle.std.specs.Prelude.{◌≡◌, length};
@@ -20,14 +20,7 @@ use answers::{
 use model::{Record, Row, Segment};
 
 // Writes a record to the front of a buffer.
-#[unsafe(no_mangle)]
-pub extern "C" fn pacer_write_record(
-    group: u8,
-    first: u16,
-    last: u16,
-    load: u16,
-    buffer: &mut [u8],
-) -> CAnswer
+pub fn pacer_write_record(group: u8, first: u16, last: u16, load: u16, buffer: &mut [u8]) -> CAnswer
     ensures says { result ≡ asked_fields (write_outcome (span_of group first last load) (length buffer.old)) }
     ensures holds { buffer.new ≡ written_buffer (span_of group first last load) buffer.old }
 {
@@ -42,8 +35,7 @@ pub extern "C" fn pacer_write_record(
 }
 
 // Writes a log on file to the front of a buffer, with the first of equal records and the others in their order.
-#[unsafe(no_mangle)]
-pub extern "C" fn pacer_without_twins(log: &[u8], buffer: &mut [u8]) -> CLogAnswer
+pub fn pacer_without_twins(log: &[u8], buffer: &mut [u8]) -> CLogAnswer
     ensures says { result ≡ log_fields (without_twins_outcome log.now (length buffer.old)) }
     ensures holds { buffer.new ≡ without_twins_buffer log.now buffer.old }
     ensures promise { FileFields log.now result buffer.new }
@@ -54,8 +46,7 @@ pub extern "C" fn pacer_without_twins(log: &[u8], buffer: &mut [u8]) -> CLogAnsw
 
 // Answers a query about a log and writes its rows into a slot. The rule is 52 for a row limit and 45 for a share, and the width that of a
 // memory, 1 for none.
-#[unsafe(no_mangle)]
-pub extern "C" fn pacer_query(
+pub fn pacer_query(
     kind: u8,
     rule: u8,
     bound: u16,
@@ -72,8 +63,7 @@ pub extern "C" fn pacer_query(
 }
 
 // Answers a query about a log by windows of so many frames, from frame `start` on, and writes their rows into a slot.
-#[unsafe(no_mangle)]
-pub extern "C" fn pacer_query_beats(
+pub fn pacer_query_beats(
     kind: u8,
     frames: u16,
     start: u16,
@@ -89,8 +79,7 @@ pub extern "C" fn pacer_query_beats(
 }
 
 // Answers a query about a log by scenes, whose first and last frames are two lists, and writes their rows into a slot.
-#[unsafe(no_mangle)]
-pub extern "C" fn pacer_query_scenes(
+pub fn pacer_query_scenes(
     kind: u8,
     firsts: &[u16],
     lasts: &[u16],
@@ -106,13 +95,7 @@ pub extern "C" fn pacer_query_scenes(
 }
 
 // The segments of a log with a memory of so many frames, in the first places of a list of 255 or more.
-#[unsafe(no_mangle)]
-pub extern "C" fn pacer_segments(
-    log: &[u8],
-    kind: u8,
-    width: u16,
-    list: &mut [Segment],
-) -> CSegmentsAnswer
+pub fn pacer_segments(log: &[u8], kind: u8, width: u16, list: &mut [Segment]) -> CSegmentsAnswer
     ensures { (result ≡ segments_fields (segments_outcome kind width log.now (length list.old))) × (list.new ≡ filled_list kind width log.now list.old) × SegmentsFields kind width log.now list.old result list.new }
 {
     let answer = lent::list::segments(log, kind, width, list);
@@ -120,8 +103,7 @@ pub extern "C" fn pacer_segments(
 }
 
 // What the header of a slot says.
-#[unsafe(no_mangle)]
-pub extern "C" fn pacer_read(slot: &[u8]) -> CReadAnswer
+pub fn pacer_read(slot: &[u8]) -> CReadAnswer
     ensures { result ≡ read_fields (read_outcome slot.now) }
 {
     let answer = pacer::read_header(slot);
@@ -129,8 +111,7 @@ pub extern "C" fn pacer_read(slot: &[u8]) -> CReadAnswer
 }
 
 // What the header of a slot says, and its rows in the first places of a list of 64 or more.
-#[unsafe(no_mangle)]
-pub extern "C" fn pacer_read_rows(slot: &[u8], list: &mut [Row]) -> CReadAnswer
+pub fn pacer_read_rows(slot: &[u8], list: &mut [Row]) -> CReadAnswer
     ensures { (result ≡ read_fields (read_list_outcome slot.now (length list.old))) × (list.new ≡ read_list slot.now list.old) }
 {
     let answer = lent::rows::read_into(slot, list);
@@ -138,8 +119,7 @@ pub extern "C" fn pacer_read_rows(slot: &[u8], list: &mut [Row]) -> CReadAnswer
 }
 
 // One step of a walk over a slot: the row with this number and the number that comes next, or the end.
-#[unsafe(no_mangle)]
-pub extern "C" fn pacer_row_at(slot: &[u8], number: usize) -> CStepAnswer
+pub fn pacer_row_at(slot: &[u8], number: usize) -> CStepAnswer
     ensures { result ≡ step_fields (step_outcome slot.now number) (step_next slot.now number) }
 {
     let walked = pacer::row_at(slot, number);
@@ -148,8 +128,7 @@ pub extern "C" fn pacer_row_at(slot: &[u8], number: usize) -> CStepAnswer
 }
 
 // The value of the row of a group that contains a frame.
-#[unsafe(no_mangle)]
-pub extern "C" fn pacer_lookup(slot: &[u8], group: u8, frame: u16) -> CLookupAnswer
+pub fn pacer_lookup(slot: &[u8], group: u8, frame: u16) -> CLookupAnswer
     ensures { result ≡ lookup_fields (lookup_outcome slot.now group frame) }
 {
     let answer = pacer::lookup(slot, group, frame);
@@ -158,8 +137,7 @@ pub extern "C" fn pacer_lookup(slot: &[u8], group: u8, frame: u16) -> CLookupAns
 
 // The values of the rows that contain each of many frames of groups, in the first places of one list, and in those of another whether
 // there is such a row: all, or in a refusal none.
-#[unsafe(no_mangle)]
-pub extern "C" fn pacer_lookups(
+pub fn pacer_lookups(
     slot: &[u8],
     groups: &[u8],
     frames: &[u16],
@@ -177,8 +155,7 @@ pub extern "C" fn pacer_lookups(
 
 // Whether a slot agrees with its log, with a memory of so many frames: its rows cover just the covered frames, none of kind 3 is below a
 // covered value, and its error is their squared error.
-#[unsafe(no_mangle)]
-pub extern "C" fn pacer_check(log: &[u8], width: u16, slot: &[u8]) -> CAnswer
+pub fn pacer_check(log: &[u8], width: u16, slot: &[u8]) -> CAnswer
     ensures says { result ≡ asked_fields (check_outcome width log.now slot.now) }
     ensures promise { CheckFields width log.now slot.now result }
 {
