@@ -1,18 +1,18 @@
 // The answers of the tool's calls as C structs. The question is 0 where a call is accepted; in a refusal every other field but
 // the index is 0, and so are a row's fields where there is no row.
+// The fields, their order and their types are those of the C header: the numbers of questions and kinds, flags as bytes, a question and an
+// index in each struct, and two structs that differ in a name alone.
 #![tactic(auto)]
 
 ghost use Rattle.std.specs.Prelude.{◌≡◌};
-ghost use Rattle.model.specs.Calls.{asked_case, record_case, log_case, query_case, segments_case, read_case, step_case, lookup_case};
-ghost use Rattle.answers.specs.Fields.{asked_fields, log_fields, query_fields, segments_fields, read_fields, step_fields, lookup_fields, no_row};
+ghost use Rattle.model.specs.Calls.{asked_case, count_case, query_case, read_case, step_case, lookup_case};
+ghost use Rattle.answers.specs.Fields.{asked_fields, log_fields, query_fields, segments_fields, read_fields, step_fields, lookup_fields};
 
-use model::{
-    Asked, LogAnswer, LookupAnswer, QueryAnswer, ReadAnswer, RecordAnswer, SegmentsAnswer, Step,
-};
+use model::{Answer, Header, Walked, Written};
 
-// Of a call that has nothing more to say than whether it is accepted: the record writer and the check.
+// Of a call that has nothing more to say than whether it is accepted: the record writer, many lookups and the check.
 #[repr(C)]
-#[derive(Clone, Copy)]
+#[derive(Clone, Copy, Default)]
 pub struct CAnswer {
     pub question: u8,
     pub index: usize,
@@ -20,7 +20,7 @@ pub struct CAnswer {
 
 // `length` is the number of bytes written.
 #[repr(C)]
-#[derive(Clone, Copy)]
+#[derive(Clone, Copy, Default)]
 pub struct CLogAnswer {
     pub question: u8,
     pub index: usize,
@@ -28,7 +28,7 @@ pub struct CLogAnswer {
 }
 
 #[repr(C)]
-#[derive(Clone, Copy)]
+#[derive(Clone, Copy, Default)]
 pub struct CQueryAnswer {
     pub question: u8,
     pub index: usize,
@@ -38,7 +38,7 @@ pub struct CQueryAnswer {
 }
 
 #[repr(C)]
-#[derive(Clone, Copy)]
+#[derive(Clone, Copy, Default)]
 pub struct CSegmentsAnswer {
     pub question: u8,
     pub index: usize,
@@ -47,7 +47,7 @@ pub struct CSegmentsAnswer {
 
 // `mark` is the second byte of the header's mark.
 #[repr(C)]
-#[derive(Clone, Copy)]
+#[derive(Clone, Copy, Default)]
 pub struct CReadAnswer {
     pub question: u8,
     pub index: usize,
@@ -59,7 +59,7 @@ pub struct CReadAnswer {
 
 // `found` is 1 for a row, and `next` the number of the row that comes next.
 #[repr(C)]
-#[derive(Clone, Copy)]
+#[derive(Clone, Copy, Default)]
 pub struct CStepAnswer {
     pub question: u8,
     pub index: usize,
@@ -73,7 +73,7 @@ pub struct CStepAnswer {
 
 // `covered` is 1 where a row holds the frame.
 #[repr(C)]
-#[derive(Clone, Copy)]
+#[derive(Clone, Copy, Default)]
 pub struct CLookupAnswer {
     pub question: u8,
     pub index: usize,
@@ -81,187 +81,156 @@ pub struct CLookupAnswer {
     pub value: u32,
 }
 
-// The record writer's answer.
-pub fn of_record(answer: RecordAnswer) -> CAnswer
-    ensures { result ≡ asked_fields (record_case answer) }
-{
-    match answer {
-        RecordAnswer::Written => CAnswer {
-            question: 0,
-            index: 0,
-        },
-        RecordAnswer::Refused(refusal) => CAnswer {
-            question: refusal.question,
-            index: refusal.index,
-        },
+// Of the record writer, many lookups and the check.
+#[tactic(auto, unfolding(crate::specs::Fields::asked_fields, model::specs::Calls::answer_case))]
+impl From<Answer<()>> for CAnswer {
+    ghost from_gives = { λ answer fields. fields ≡ asked_fields (asked_case answer) };
+
+    fn from(answer: Answer<()>) -> CAnswer {
+        match answer {
+            Ok(()) => CAnswer::default(),
+            Err(refusal) => CAnswer {
+                question: refusal.question.into(),
+                index: refusal.index,
+            },
+        }
     }
 }
 
-// Whether every question was passed.
-pub fn of_asked(asked: Asked) -> CAnswer
-    ensures { result ≡ asked_fields (asked_case asked) }
-{
-    match asked {
-        Asked::Passed => CAnswer {
-            question: 0,
-            index: 0,
-        },
-        Asked::Refused(refusal) => CAnswer {
-            question: refusal.question,
-            index: refusal.index,
-        },
+// Of the call for logs on file.
+#[tactic(auto, unfolding(crate::specs::Fields::log_fields, model::specs::Calls::answer_case))]
+impl From<Answer<usize>> for CLogAnswer {
+    ghost from_gives = { λ answer fields. fields ≡ log_fields (count_case answer) };
+
+    fn from(answer: Answer<usize>) -> CLogAnswer {
+        match answer {
+            Ok(length) => CLogAnswer {
+                length,
+                ..CLogAnswer::default()
+            },
+            Err(refusal) => CLogAnswer {
+                question: refusal.question.into(),
+                index: refusal.index,
+                ..CLogAnswer::default()
+            },
+        }
     }
 }
 
-// The answer of the call for logs on file.
-pub fn of_log(answer: LogAnswer) -> CLogAnswer
-    ensures { result ≡ log_fields (log_case answer) }
-{
-    match answer {
-        LogAnswer::Written(length) => CLogAnswer {
-            question: 0,
-            index: 0,
-            length,
-        },
-        LogAnswer::Refused(refusal) => CLogAnswer {
-            question: refusal.question,
-            index: refusal.index,
-            length: 0,
-        },
+// Of a query.
+#[tactic(auto, unfolding(crate::specs::Fields::query_fields, model::specs::Calls::answer_case, model::specs::Calls::counts_in))]
+impl From<Answer<Written>> for CQueryAnswer {
+    ghost from_gives = { λ answer fields. fields ≡ query_fields (query_case answer) };
+
+    fn from(answer: Answer<Written>) -> CQueryAnswer {
+        match answer {
+            Ok(written) => CQueryAnswer {
+                rows: written.rows,
+                error: written.error,
+                weighed: written.weighed,
+                ..CQueryAnswer::default()
+            },
+            Err(refusal) => CQueryAnswer {
+                question: refusal.question.into(),
+                index: refusal.index,
+                ..CQueryAnswer::default()
+            },
+        }
     }
 }
 
-// A query's answer.
-pub fn of_query(answer: QueryAnswer) -> CQueryAnswer
-    ensures { result ≡ query_fields (query_case answer) }
-{
-    match answer {
-        QueryAnswer::Written {
-            rows,
-            error,
-            weighed,
-        } => CQueryAnswer {
-            question: 0,
-            index: 0,
-            rows,
-            error,
-            weighed,
-        },
-        QueryAnswer::Refused(refusal) => CQueryAnswer {
-            question: refusal.question,
-            index: refusal.index,
-            rows: 0,
-            error: 0,
-            weighed: 0,
-        },
+// Of the segment call.
+#[tactic(auto, unfolding(crate::specs::Fields::segments_fields, model::specs::Calls::answer_case))]
+impl From<Answer<usize>> for CSegmentsAnswer {
+    ghost from_gives = { λ answer fields. fields ≡ segments_fields (count_case answer) };
+
+    fn from(answer: Answer<usize>) -> CSegmentsAnswer {
+        match answer {
+            Ok(count) => CSegmentsAnswer {
+                count,
+                ..CSegmentsAnswer::default()
+            },
+            Err(refusal) => CSegmentsAnswer {
+                question: refusal.question.into(),
+                index: refusal.index,
+                ..CSegmentsAnswer::default()
+            },
+        }
     }
 }
 
-// The segment call's answer.
-pub fn of_segments(answer: SegmentsAnswer) -> CSegmentsAnswer
-    ensures { result ≡ segments_fields (segments_case answer) }
-{
-    match answer {
-        SegmentsAnswer::Found(count) => CSegmentsAnswer {
-            question: 0,
-            index: 0,
-            count,
-        },
-        SegmentsAnswer::Refused(refusal) => CSegmentsAnswer {
-            question: refusal.question,
-            index: refusal.index,
-            count: 0,
-        },
+// Of the reader.
+#[tactic(auto, unfolding(crate::specs::Fields::read_fields, model::specs::Calls::answer_case, model::specs::Calls::header_in))]
+impl From<Answer<Header>> for CReadAnswer {
+    ghost from_gives = { λ answer fields. fields ≡ read_fields (read_case answer) };
+
+    fn from(answer: Answer<Header>) -> CReadAnswer {
+        match answer {
+            Ok(header) => CReadAnswer {
+                kind: header.kind,
+                mark: header.mark,
+                rows: header.rows,
+                error: header.error,
+                ..CReadAnswer::default()
+            },
+            Err(refusal) => CReadAnswer {
+                question: refusal.question.into(),
+                index: refusal.index,
+                ..CReadAnswer::default()
+            },
+        }
     }
 }
 
-// The reader's answer.
-pub fn of_read(answer: ReadAnswer) -> CReadAnswer
-    ensures { result ≡ read_fields (read_case answer) }
-{
-    match answer {
-        ReadAnswer::Slot {
-            mark,
-            kind,
-            error,
-            rows,
-        } => CReadAnswer {
-            question: 0,
-            index: 0,
-            kind,
-            mark,
-            rows,
-            error,
-        },
-        ReadAnswer::Refused(refusal) => CReadAnswer {
-            question: refusal.question,
-            index: refusal.index,
-            kind: 0,
-            mark: 0,
-            rows: 0,
-            error: 0,
-        },
+// Of a step of a walk.
+#[tactic(auto, unfolding(crate::specs::Fields::step_fields, crate::specs::Fields::no_row, model::specs::Calls::answer_case, model::specs::Calls::row_found, model::specs::Calls::row_span, model::specs::Common::option_of))]
+impl From<Walked> for CStepAnswer {
+    ghost from_gives = { λ walked fields. fields ≡ step_fields (step_case walked.step) walked.next };
+
+    fn from(walked: Walked) -> CStepAnswer {
+        let next = walked.next;
+        match walked.step {
+            Ok(Some(row)) => CStepAnswer {
+                found: 1,
+                group: row.group,
+                first: row.first,
+                last: row.last,
+                value: row.value,
+                next,
+                ..CStepAnswer::default()
+            },
+            Ok(None) => CStepAnswer {
+                next,
+                ..CStepAnswer::default()
+            },
+            Err(refusal) => CStepAnswer {
+                question: refusal.question.into(),
+                index: refusal.index,
+                next,
+                ..CStepAnswer::default()
+            },
+        }
     }
 }
 
-// A step of a walk, with the number of the row that comes next.
-pub fn of_step(step: Step, next: usize) -> CStepAnswer
-    ensures { result ≡ step_fields (step_case step) next }
-{
-    match step {
-        Step::Found(row) => CStepAnswer {
-            question: 0,
-            index: 0,
-            found: 1,
-            group: row.group,
-            first: row.first,
-            last: row.last,
-            value: row.value,
-            next,
-        },
-        Step::End => no_row(0, 0, next),
-        Step::Refused(refusal) => no_row(refusal.question, refusal.index, next),
-    }
-}
+// Of a lookup.
+#[tactic(auto, unfolding(crate::specs::Fields::lookup_fields, model::specs::Calls::answer_case, model::specs::Common::option_of))]
+impl From<Answer<Option<u32>>> for CLookupAnswer {
+    ghost from_gives = { λ answer fields. fields ≡ lookup_fields (lookup_case answer) };
 
-// A step that gives no row.
-fn no_row(question: u8, index: usize, next: usize) -> CStepAnswer
-    ensures { result ≡ no_row question index next }
-{
-    CStepAnswer {
-        question,
-        index,
-        found: 0,
-        group: 0,
-        first: 0,
-        last: 0,
-        value: 0,
-        next,
-    }
-}
-
-// A lookup's answer.
-pub fn of_lookup(answer: LookupAnswer) -> CLookupAnswer
-    ensures { result ≡ lookup_fields (lookup_case answer) }
-{
-    match answer {
-        LookupAnswer::Value(value) => CLookupAnswer {
-            question: 0,
-            index: 0,
-            covered: 1,
-            value,
-        },
-        LookupAnswer::Uncovered => CLookupAnswer {
-            question: 0,
-            index: 0,
-            covered: 0,
-            value: 0,
-        },
-        LookupAnswer::Refused(refusal) => CLookupAnswer {
-            question: refusal.question,
-            index: refusal.index,
-            covered: 0,
-            value: 0,
-        },
+    fn from(answer: Answer<Option<u32>>) -> CLookupAnswer {
+        match answer {
+            Ok(Some(value)) => CLookupAnswer {
+                covered: 1,
+                value,
+                ..CLookupAnswer::default()
+            },
+            Ok(None) => CLookupAnswer::default(),
+            Err(refusal) => CLookupAnswer {
+                question: refusal.question.into(),
+                index: refusal.index,
+                ..CLookupAnswer::default()
+            },
+        }
     }
 }

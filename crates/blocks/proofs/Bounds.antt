@@ -2,19 +2,33 @@
 -- Assumes nothing.
 use Prim.Native.Nat.{ℕ, suc, ◌+◌, ◌*◌, ◌/◌, ◌≤◌, ◌<◌}
 use mathlib.Core.List.{List}
-use mathlib.Core.Path.{◌≡◌}
+use mathlib.Core.Path.{◌≡◌, refl}
 use native.Mathlib.Nat.{mul-le-mul_right, le_antisymm, le_of_suc-le-suc, le-div_iff_mul-le, div-lt_iff_lt-mul}
 use native.Mathlib.Omega.{arith}
 use Rattle.model.specs.Spans.{Span}
 use Rattle.model.specs.Blocks.{Totals, totals, nearest, value_for, row_value, block_error}
+use Rattle.model.specs.Calls.{kind_number}
+use Rattle.model.specs.Log.{greatest_kind}
 use Rattle.model.specs.Questions.{most_value}
 use Rattle.model.specs.Room.{Room, Block}
+use Rattle.model.specs.declared.Kind.{Kind}
+use Rattle.model.specs.declared.Kind.TheVariants.{Sum, Count, Least, Greatest, Mean, Other}
 use Rattle.theory.proofs.Nearest.{error_pos, nearest_low, nearest_high, nearest_le}
 use Rattle.theory.proofs.RowValues.{value_le}
 use Rattle.theory.proofs.Bounds.{mul_le}
 use Rattle.blocks.specs.Meaning.{error_by, error_from}
 
 -- ---- the row value
+
+-- kind 3 is that of the greatest load alone
+pub other_kind : (kind : Kind) → (kind ≡ Greatest → ⊥) → kind_number kind ≡ greatest_kind → ⊥
+unfolding kind_number
+other_kind Sum other is = absurd (omega (arith, is))
+other_kind Count other is = absurd (omega (arith, is))
+other_kind Least other is = absurd (omega (arith, is))
+other_kind Greatest other is = other refl
+other_kind Mean other is = absurd (omega (arith, is))
+other_kind (Other o) other is = absurd (omega (arith, o.above, is))
 
 pub nearest_none : (sum frames : ℕ) → sum ≤ most_value * frames → frames ≡ 0 → 0 ≡ nearest sum frames
 nearest_none sum frames le none_here = omega (arith, nearest_le 0 sum frames (omega arith))

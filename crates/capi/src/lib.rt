@@ -1,6 +1,8 @@
 // The tool's calls over numbers, slices and the structs of C, as `include/pacer.h` declares them; the crate `capi_c` exports them. Each
 // call answers every input, says by equation with the definitions what it answers and what the places lent to it hold
 // afterwards, and has no `requires`.
+// Kinds and rules are bytes here, and lists are lent apart, since the C interface has them so; each call hands on to one of the same
+// parameters.
 #![tactic(auto)]
 
 ghost use Rattle.std.specs.Prelude.{◌≡◌, length};
@@ -30,8 +32,7 @@ pub fn pacer_write_record(group: u8, first: u16, last: u16, load: u16, buffer: &
         last,
         load,
     };
-    let answer = pacer::write_record(record, buffer);
-    answers::of_record(answer)
+    pacer::write_record(record, buffer).into()
 }
 
 // Writes a log on file to the front of a buffer, with the first of equal records and the others in their order.
@@ -40,8 +41,7 @@ pub fn pacer_without_twins(log: &[u8], buffer: &mut [u8]) -> CLogAnswer
     ensures holds { buffer.new ≡ without_twins_buffer log.now buffer.old }
     ensures promise { FileFields log.now result buffer.new }
 {
-    let answer = pacer::without_twins(log, buffer);
-    answers::of_log(answer)
+    pacer::without_twins(log, buffer).into()
 }
 
 // Answers a query about a log and writes its rows into a slot. The rule is 52 for a row limit and 45 for a share, and the width that of a
@@ -58,8 +58,7 @@ pub fn pacer_query(
     ensures holds { slot.new ≡ letter_slot kind rule bound width log.now slot.old }
     ensures promise { (says : Outcome Counts) × (result ≡ query_fields says) × LetterPromise kind rule bound width log.now slot.old says slot.new }
 {
-    let answer = pacer::query_by_letter(kind, rule, bound, width, log, slot);
-    answers::of_query(answer)
+    pacer::query_by_letter(kind, rule, bound, width, log, slot).into()
 }
 
 // Answers a query about a log by windows of so many frames, from frame `start` on, and writes their rows into a slot.
@@ -74,8 +73,7 @@ pub fn pacer_query_beats(
     ensures holds { slot.new ≡ ruled_slot (beat_query kind frames start) log.now slot.old }
     ensures promise { RuledFields (beat_query kind frames start) log.now slot.old result slot.new }
 {
-    let answer = pacer::query_by_beats(kind, frames, start, log, slot);
-    answers::of_query(answer)
+    pacer::query_by_beats(kind, frames, start, log, slot).into()
 }
 
 // Answers a query about a log by scenes, whose first and last frames are two lists, and writes their rows into a slot.
@@ -90,49 +88,42 @@ pub fn pacer_query_scenes(
     ensures holds { slot.new ≡ ruled_slot (scene_query kind firsts.now lasts.now) log.now slot.old }
     ensures promise { RuledFields (scene_query kind firsts.now lasts.now) log.now slot.old result slot.new }
 {
-    let answer = pacer::query_by_scenes(kind, firsts, lasts, log, slot);
-    answers::of_query(answer)
+    pacer::query_by_scenes(kind, firsts, lasts, log, slot).into()
 }
 
 // The segments of a log with a memory of so many frames, in the first places of a list of 255 or more.
 pub fn pacer_segments(log: &[u8], kind: u8, width: u16, list: &mut [Segment]) -> CSegmentsAnswer
     ensures { (result ≡ segments_fields (segments_outcome kind width log.now (length list.old))) × (list.new ≡ filled_list kind width log.now list.old) × SegmentsFields kind width log.now list.old result list.new }
 {
-    let answer = lent::list::segments(log, kind, width, list);
-    answers::of_segments(answer)
+    lent::list::segments(log, kind, width, list).into()
 }
 
 // What the header of a slot says.
 pub fn pacer_read(slot: &[u8]) -> CReadAnswer
     ensures { result ≡ read_fields (read_outcome slot.now) }
 {
-    let answer = pacer::read_header(slot);
-    answers::of_read(answer)
+    pacer::read_header(slot).into()
 }
 
 // What the header of a slot says, and its rows in the first places of a list of 64 or more.
 pub fn pacer_read_rows(slot: &[u8], list: &mut [Row]) -> CReadAnswer
     ensures { (result ≡ read_fields (read_list_outcome slot.now (length list.old))) × (list.new ≡ read_list slot.now list.old) }
 {
-    let answer = lent::rows::read_into(slot, list);
-    answers::of_read(answer)
+    lent::rows::read_into(slot, list).into()
 }
 
 // One step of a walk over a slot: the row with this number and the number that comes next, or the end.
 pub fn pacer_row_at(slot: &[u8], number: usize) -> CStepAnswer
     ensures { result ≡ step_fields (step_outcome slot.now number) (step_next slot.now number) }
 {
-    let walked = pacer::row_at(slot, number);
-    let step = walked.step;
-    answers::of_step(step, walked.next)
+    pacer::row_at(slot, number).into()
 }
 
 // The value of the row of a group that contains a frame.
 pub fn pacer_lookup(slot: &[u8], group: u8, frame: u16) -> CLookupAnswer
     ensures { result ≡ lookup_fields (lookup_outcome slot.now group frame) }
 {
-    let answer = pacer::lookup(slot, group, frame);
-    answers::of_lookup(answer)
+    pacer::lookup(slot, group, frame).into()
 }
 
 // The values of the rows that contain each of many frames of groups, in the first places of one list, and in those of another whether
@@ -149,8 +140,7 @@ pub fn pacer_lookups(
     ensures flagged { covered.new ≡ lookups_covered slot.now groups.now frames.now values.old covered.old }
     ensures promise { LookupsFields slot.now groups.now frames.now values.old covered.old result values.new covered.new }
 {
-    let answer = lookups::look_up(slot, groups, frames, values, covered);
-    answers::of_asked(answer)
+    lookups::look_up(slot, groups, frames, values, covered).into()
 }
 
 // Whether a slot agrees with its log, with a memory of so many frames: its rows cover just the covered frames, none of kind 3 is below a
@@ -159,6 +149,5 @@ pub fn pacer_check(log: &[u8], width: u16, slot: &[u8]) -> CAnswer
     ensures says { result ≡ asked_fields (check_outcome width log.now slot.now) }
     ensures promise { CheckFields width log.now slot.now result }
 {
-    let answer = checker::check(log, width, slot);
-    answers::of_asked(answer)
+    checker::check(log, width, slot).into()
 }

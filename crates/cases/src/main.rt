@@ -2,19 +2,10 @@
 // length in two bytes, least byte first, and as many bytes of input.
 #![tactic(auto)]
 
-ghost use Rattle.std.specs.Prelude.{◌≡◌, length};
-
 use input::read_full;
 use std::env::Env;
 use std::fs::File;
 use std::{io, str};
-
-// Zeros, for a whole file of cases.
-fn large_buffer() -> [u8; 262144]
-    ensures { 262144 ≡ length result }
-{
-    [0; 262144]
-}
 
 // Prints what is printed for one input.
 fn print(rt: &impl Print, input: &[u8]) -> io::Result<()> {
@@ -25,26 +16,23 @@ fn print(rt: &impl Print, input: &[u8]) -> io::Result<()> {
 
 // Prints what is printed for each case, up to the first that is not whole.
 fn print_all(rt: &impl Print, cases: &[u8]) -> io::Result<()> {
-    let mut at: usize = 0;
-    while cases.len() - at >= 2 {
-        let start = at + 2;
-        let size = common::two(cases, at) as usize;
-        if cases.len() - start < size {
+    let mut rest = cases;
+    // no `for`: the rest of the bytes tells whether there is a turn
+    while let Some((size, behind)) = rest.split_first_chunk::<2>() {
+        let size = u16::from_le_bytes(*size);
+        let Some((input, next)) = behind.split_at_checked(usize::from(size)) else {
             return Ok(());
-        }
-        let end = start + size;
-        print(rt, &cases[start..end])?;
-        at = end;
+        };
+        print(rt, input)?;
+        rest = next;
     }
     Ok(())
 }
 
 // Opens the file of this path, which is text.
 fn open(rt: &HostRuntime, path: &[u8]) -> io::Result<File> {
-    match str::from_utf8(path) {
-        Ok(text) => File::open(rt, text),
-        Err(_) => Err(io::Error::from(io::ErrorKind::InvalidData)),
-    }
+    let text = str::from_utf8(path).map_err(|_| io::Error::from(io::ErrorKind::InvalidData))?;
+    File::open(rt, text)
 }
 
 // With no argument the path is empty, and no file has that.
@@ -52,7 +40,7 @@ fn main(rt: HostRuntime) -> io::Result<()> {
     let mut path = [0u8; 4096];
     let length = rt.arg(1, &mut path).unwrap_or(0);
     let mut file = open(&rt, &path[..length])?;
-    let mut cases = large_buffer();
+    let mut cases = [0u8; 262144];
     let n = read_full(&mut file, &mut cases)?;
     print_all(&rt, &cases[..n])
 }

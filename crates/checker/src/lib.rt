@@ -2,19 +2,22 @@
 // no row of kind 3 is below a covered value (23), and the error is the rows' squared error (24).
 #![tactic(auto)]
 
-ghost use Rattle.std.specs.Prelude.{◌≡◌, true, cond, [], ◌∷◌, ◌≤◌, eqb, length};
-ghost use Rattle.model.specs.Log.{records, greatest_kind, value};
+ghost use Rattle.std.specs.Prelude.{◌≡◌, ◌≤◌, length};
+ghost use Rattle.model.specs.Log.{records, value};
 ghost use Rattle.model.specs.Slot.{by_bound, slot_kind, slot_error, slot_rows};
-ghost use Rattle.model.specs.Questions.{ask, outcome, marked, log_questions, slot_questions};
-ghost use Rattle.model.specs.Calls.{asked_case};
+ghost use Rattle.model.specs.Questions.{outcome, marked, log_questions, slot_questions};
+ghost use Rattle.model.specs.Calls.{asked_case, kind_number};
 ghost use Rattle.model.specs.Check.{against_questions, bounded_questions, check_outcome};
 ghost use Rattle.model.specs.Demands.{AllPass, CheckPromise};
+ghost use Rattle.checker.specs.Found.{found_questions};
 
-use common::{eight, is_width, no, then};
+use common::{eight, is_width, no};
 use compare::Compared;
-use model::{Asked, BY_BOUND, GREATEST_KIND, MOST_SEGMENTS, SLOT_LENGTH};
+use model::{Answer, BY_BOUND, Kind, Question, SLOT_LENGTH, Segments};
 
 // Question 11's: whether the header's mark is that of rows by a bound.
+// Two bytes one by one: a number would be no plainer.
+#[tactic(auto, unfolding(model::specs::Questions::marked))]
 fn by_bound(slot: &[u8]) -> bool
     requires { 768 ≤ length slot.now }
     ensures { result ≡ marked slot.now 0 0x50 by_bound }
@@ -23,73 +26,59 @@ fn by_bound(slot: &[u8]) -> bool
 }
 
 // Questions 11 to 17 of a slot by a bound: its mark is asked ahead of what every slot is asked.
-fn ask_bounded(slot: &[u8]) -> Asked
+fn ask_bounded(slot: &[u8]) -> Answer<()>
     requires { 768 ≤ length slot.now }
     ensures { asked_case result ≡ outcome (bounded_questions slot.now) tt }
 {
     if !by_bound(slot) {
-        return no(11, 0);
+        return no(Question::SlotMark, 0);
     }
     slot::ask(slot)
 }
 
-// Questions 22 to 24, from what was found of the rows.
-fn ask_found(kind: u8, error: u64, found: Compared) -> Asked
-    ensures { asked_case result ≡ outcome (ask 22 0 found.same ∷ ask 23 0 (cond (eqb kind greatest_kind) found.reaches true) ∷ ask 24 0 (eqb error found.error) ∷ []) tt }
+// Questions 22 to 24, from what was found of the rows: nothing where the frames covered differ.
+fn ask_found(kind: Kind, error: u64, found: Option<Compared>) -> Answer<()>
+    ensures { asked_case result ≡ outcome (found_questions (kind_number kind) error found) tt }
 {
-    if !found.same {
-        return no(22, 0);
+    let Some(rows) = found else {
+        return no(Question::Coverage, 0);
+    };
+    if kind.is_greatest() & !rows.reaches {
+        return no(Question::GreatestLoad, 0);
     }
-    if (kind == GREATEST_KIND) & !found.reaches {
-        return no(23, 0);
+    if error != rows.error {
+        return no(Question::SlotError, 0);
     }
-    if error != found.error {
-        return no(24, 0);
-    }
-    Asked::Passed
+    Ok(())
 }
 
-// Questions 22 to 24, of a log and a slot that have passed theirs, with a memory of so many frames.
-fn ask_against(log: &[u8], width: u16, slot: &[u8]) -> Asked
-    requires all_pass { AllPass (log_questions log.now) }
-    requires le_width { 1 ≤ width }
-    requires all_pass_2 { AllPass (slot_questions slot.now) }
+// Questions 22 to 24, of a log and a slot that have passed theirs, with a memory of so many frames. A slot that has passed its questions
+// has a kind.
+fn ask_against(log: &[u8], width: u16, slot: &[u8]) -> Answer<()>
+    requires log_passes { AllPass (log_questions log.now) }
+    requires some_frames { 1 ≤ width }
+    requires slot_passes { AllPass (slot_questions slot.now) }
     ensures { asked_case result ≡ outcome (against_questions (slot_kind slot.now) (slot_error slot.now) (slot_rows slot.now) (value (slot_kind slot.now) width (records log.now))) tt }
 {
-    let kind = slot[2];
-    let mut groups = [0u8; MOST_SEGMENTS];
-    let mut firsts = [0u16; MOST_SEGMENTS];
-    let mut lasts = [0u16; MOST_SEGMENTS];
-    let mut values = [0u32; MOST_SEGMENTS];
-    let count = segments::of_log(
-        log,
-        kind,
-        width,
-        &mut groups,
-        &mut firsts,
-        &mut lasts,
-        &mut values,
-    );
-    let found = compare::with_segments(slot, &groups, &firsts, &lasts, &values, count);
+    let kind = Kind::of(slot[2]);
+    let mut segments = Segments::none();
+    segments::of_log(log, kind, width, &mut segments);
+    let found = compare::with_segments(slot, &segments);
     ask_found(kind, eight(slot, 4), found)
 }
 
 // Asks whether a slot agrees with its log, by the values of a memory of so many frames.
-pub fn check(log: &[u8], width: u16, slot: &[u8]) -> Asked
+pub fn check(log: &[u8], width: u16, slot: &[u8]) -> Answer<()>
     ensures says { asked_case result ≡ check_outcome width log.now slot.now }
     ensures promise { CheckPromise width log.now slot.now (asked_case result) }
 {
     if slot.len() < SLOT_LENGTH {
-        return no(1, 0);
+        return no(Question::Room, 0);
     }
     if !is_width(width) {
-        return no(25, 0);
+        return no(Question::Width, 0);
     }
-    let logged = load_log::ask(log);
-    let bounded = ask_bounded(slot);
-    let asked = then(logged, bounded);
-    match asked {
-        Asked::Refused(r) => Asked::Refused(r),
-        Asked::Passed => ask_against(log, width, slot),
-    }
+    load_log::ask(log)?;
+    ask_bounded(slot)?;
+    ask_against(log, width, slot)
 }

@@ -1,4 +1,7 @@
 -- The number of rows that answers a bound, from a column of errors that is filled as far as the bound asks for. Assumes nothing.
+use Rattle.std.specs.Prelude.{Some}
+use Rattle.std.specs.Bool.{then_some}
+use Rattle.std.proofs.lemmas.Option.{same_Some, none-some}
 use Prim.Native.Nat.{ℕ, zero, suc, ◌+◌, ◌-◌, ◌≤◌, ◌<◌, min}
 use mathlib.Core.Bool.{Bool, true, false, cond}
 use mathlib.Core.List.{List}
@@ -9,14 +12,16 @@ use native.Mathlib.Nat.{add-zero, zero-add}
 use native.Mathlib.Omega.{arith}
 use lib.ListN.{get_or}
 use borrow.Author.Tests.{leb-true, ne_eqb}
+use Rattle.model.specs.Common.{option_of}
 use Rattle.model.specs.Split.{cell, least, fewest, within, first_that, most_rows, chosen, rows_tried}
 use Rattle.model.specs.declared.Bound.{Bound}
 use Rattle.model.specs.declared.Bound.TheVariants.{Rows, Share}
 use Rattle.theory.proofs.Tests.{cases, true≢false, none≢some}
 use Rattle.triangle.specs.Costs.{Costs}
-use Rattle.choice.specs.declared.Choice.{Choice}
 use Rattle.choice.specs.Errors.{error_in}
-use Rattle.choice.specs.Bounds.{Known, last_row, meets, stop_row, filled_rows, covers_runs, choice_in, Comparable, FilledColumn}
+use Rattle.choice.specs.Bounds.{Known, last_row, meets, stop_row, filled_rows, covers_runs, choice_in, Comparable}
+use Rattle.choice.specs.Columns.{FilledColumn}
+use Rattle.choice.specs.declared.Task.{Task}
 use Rattle.choice.proofs.Errors.{fewest_le}
 use Rattle.choice.proofs.Meeting.{by_rows, no_error_lem, comparable, meets_column}
 
@@ -120,59 +125,67 @@ module _ {err : ℕ → ℕ → ℕ} {low : ℕ → ℕ} {n m : ℕ} (costs : Co
 
 -- ---- the choice
 
-module _ {err : ℕ → ℕ → ℕ} {low : ℕ → ℕ} {n m : ℕ} {bound : Bound} {column : List ℕ} {last : ℕ} (g : FilledColumn err low n m bound column last) where
-  can_try : 1 ≤ last_row bound n
-  can_try = last_pos g.costs g.some_segments bound g.covers
+then_some_is : (b : Bool) (x y : ℕ) → then_some b x ≡ Some y → x ≡ y
+then_some_is true x y is = same_Some x y is
+then_some_is false x y is = absurd (none-some y is)
 
-  pub rows_range : (1 ≤ last) × (last ≤ 64) × (last ≤ n)
+module _ {err : ℕ → ℕ → ℕ} {low : ℕ → ℕ} {task : Task} {column : List ℕ} {last : ℕ} (g : FilledColumn err low task column last) where
+  can_try : 1 ≤ last_row task.bound task.segments
+  can_try = last_pos g.costs task.some_segments task.bound task.covers
+
+  pub rows_range : (1 ≤ last) × (last ≤ 64) × (last ≤ task.segments)
   unfolding filled_rows last_row most_rows Known
-  rows_range = rw g.rows (by bound g.known can_try)
+  rows_range = rw g.rows (by task.bound task.known can_try)
     where
-      by : (b : Bound) → Known b → 1 ≤ last_row b n
-          → (1 ≤ filled_rows b (by_rows err low n) n m) × (filled_rows b (by_rows err low n) n m ≤ 64) × (filled_rows b (by_rows err low n) n m ≤ n)
+      by : (b : Bound) → Known b → 1 ≤ last_row b task.segments
+          → (1 ≤ filled_rows b (by_rows err low task.segments) task.segments task.runs) × (filled_rows b (by_rows err low task.segments) task.segments task.runs ≤ 64) × (filled_rows b (by_rows err low task.segments) task.segments task.runs ≤ task.segments)
       by (Rows c) h one =
-          let (ge, le) = stop_range (meets (Rows c) (by_rows err low n) m) 1 (min c n - 1) in
+          let (ge, le) = stop_range (meets (Rows c) (by_rows err low task.segments) task.runs) 1 (min c task.segments - 1) in
           (omega arith, omega arith, omega arith)
       by (Share p) h one =
-          let (ge, le) = stop_range (meets (Share p) (by_rows err low n) m) 1 (min 64 n - 1) in
+          let (ge, le) = stop_range (meets (Share p) (by_rows err low task.segments) task.runs) 1 (min 64 task.segments - 1) in
           (omega arith, omega arith, omega arith)
 
   -- the errors can be compared
-  pub comparable_last : Comparable bound column m last
+  pub comparable_last : Comparable task.bound column task.runs last
   comparable_last =
       let (some-row, few, inside) = rows_range in
-      comparable g.costs column last (λ k le. (g.errors k le).is) inside bound g.known (omega arith)
+      comparable g.costs column last (λ k le. (g.errors k le).is) inside task.bound task.known (omega arith)
 
-  module _ (c : Choice) (is : c ≡ choice_in bound column m last) where
-    -- the choice that is made from the column is the definition's
-    pub choice_is : chosen bound (by_rows err low n) n m ≡ cond c.found (some c.count) none
-    unfolding choice_in
-    choice_is = rw is (by bound g.covers can_try g.rows)
-      where
-        by : (b : Bound) → covers_runs b m ≡ true → 1 ≤ last_row b n → last ≡ filled_rows b (by_rows err low n) n m
-            → chosen b (by_rows err low n) n m ≡ cond (choice_in b column m last).found (some (choice_in b column m last).count) none
-        by (Rows l) e one filled =
-            limit_count (by_rows err low n) n m l e
-            ∙ sym (ap some (fewest_cong (λ k. error_in (get_or column k 0)) (by_rows err low n) last (λ k le. (g.errors k le).is)
-            ∙ ap (fewest (by_rows err low n)) (filled ∙ limit_rows (by_rows err low n) n m l one)))
-        by (Share p) e one filled =
-            share_count g.costs g.some_segments p
-            ∙ rw (← filled, meets_column g.costs column last (λ k le. (g.errors k le).is) rows_range.2 (Share p))
+  -- the choice that is made from the column is the definition's
+  pub choice_is : chosen task.bound (by_rows err low task.segments) task.segments task.runs ≡ option_of (choice_in task.bound column task.runs last)
+  unfolding choice_in option_of
+  choice_is = by task.bound task.covers can_try g.rows
+    where
+      by : (b : Bound) → covers_runs b task.runs ≡ true → 1 ≤ last_row b task.segments → last ≡ filled_rows b (by_rows err low task.segments) task.segments task.runs
+          → chosen b (by_rows err low task.segments) task.segments task.runs ≡ option_of (choice_in b column task.runs last)
+      by (Rows l) e one filled =
+          limit_count (by_rows err low task.segments) task.segments task.runs l e
+          ∙ sym (ap some (fewest_cong (λ k. error_in (get_or column k 0)) (by_rows err low task.segments) last (λ k le. (g.errors k le).is)
+          ∙ ap (fewest (by_rows err low task.segments)) (filled ∙ limit_rows (by_rows err low task.segments) task.segments task.runs l one)))
+      by (Share p) e one filled =
+          share_count g.costs task.some_segments p
+          ∙ rw (← filled, meets_column g.costs column last (λ k le. (g.errors k le).is) rows_range.2 (Share p))
+          (cases (meets (Share p) (by_rows err low task.segments) task.runs last) (λ met. rw met) (λ unmet. rw unmet))
 
-    pub count_le : c.count ≤ last
+  module _ (k : ℕ) (chosen_rows : choice_in task.bound column task.runs last ≡ Some k) where
+    pub count_le : k ≤ last
     unfolding choice_in
-    count_le = rw is (by bound)
+    count_le = by task.bound chosen_rows
       where
-        by : (b : Bound) → (choice_in b column m last).count ≤ last
-        by (Rows l) = fewest_le (λ k. error_in (get_or column k 0)) last
-        by (Share p) = omega arith
+        by : (b : Bound) → choice_in b column task.runs last ≡ Some k → k ≤ last
+        by (Rows l) is =
+            let same = same_Some (fewest (λ x. error_in (get_or column x 0)) last) k is in
+            let few = fewest_le (λ x. error_in (get_or column x 0)) last in
+            omega arith
+        by (Share p) is = let same = then_some_is _ last k is in omega arith
 
     -- the rows tried are those that are filled
-    pub tried_is : rows_tried bound n c.count ≡ last
+    pub tried_is : rows_tried task.bound task.segments k ≡ last
     unfolding choice_in rows_tried
-    tried_is = rw is (by bound can_try g.rows)
+    tried_is = by task.bound chosen_rows can_try g.rows
       where
-        by : (b : Bound) → 1 ≤ last_row b n → last ≡ filled_rows b (by_rows err low n) n m
-            → rows_tried b n (choice_in b column m last).count ≡ last
-        by (Rows l) one filled = sym (filled ∙ limit_rows (by_rows err low n) n m l one)
-        by (Share p) one filled = refl
+        by : (b : Bound) → choice_in b column task.runs last ≡ Some k → 1 ≤ last_row b task.segments → last ≡ filled_rows b (by_rows err low task.segments) task.segments task.runs
+            → rows_tried b task.segments k ≡ last
+        by (Rows l) is one filled = sym (filled ∙ limit_rows (by_rows err low task.segments) task.segments task.runs l one)
+        by (Share p) is one filled = sym (then_some_is _ last k is)

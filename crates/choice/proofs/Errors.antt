@@ -1,12 +1,13 @@
 -- Errors with 'none' among them, as the code holds them: every number from `no_error` on stands for 'none'. Assumes nothing.
-use Prim.Native.Nat.{ℕ, zero, suc, ◌+◌, ◌≤◌, ◌<◌, zero-le}
+use Prim.Native.Nat.{ℕ, zero, suc, ◌-◌, ◌≤◌, ◌<◌, zero-le}
 use mathlib.Core.Bool.{cond}
+use mathlib.Core.List.{List}
 use mathlib.Core.Option.{Option, none, some}
 use mathlib.Core.Path.{◌≡◌, sym}
 use native.Mathlib.Decide.{dec_le}
-use native.Mathlib.Numerals.{add-one}
 use native.Mathlib.Omega.{arith}
 use lib.Dec.{ltb}
+use lib.ListN.{get_or}
 use borrow.Author.Tests.{lt-ltb, le-ltb}
 use Rattle.model.specs.Split.{below, exceeds, fewest}
 use Rattle.theory.proofs.Tests.{cases, none≢some, some_inj}
@@ -50,11 +51,16 @@ exceeds_in a b small =
       | no lt ↦ rw (some_in b (omega arith))
     ]
 
--- the fewest rows with the least error, one number of rows further
-pub fewest_next : (e : ℕ → Option ℕ) (k best r : ℕ) → best ≡ fewest e k → r ≡ cond (below (e (k + 1)) (e best)) (k + 1) best
-    → r ≡ fewest e (k + 1)
+-- the fewest rows with the least error of a column, with row k behind the rows before it
+pub fewest_next : (column : List ℕ) (k best r : ℕ) → 1 ≤ k → get_or column best 0 ≤ no_error
+    → best ≡ fewest (λ x. error_in (get_or column x 0)) (k - 1) → r ≡ cond (ltb (get_or column k 0) (get_or column best 0)) k best
+    → r ≡ fewest (λ x. error_in (get_or column x 0)) k
 unfolding fewest
-fewest_next e k best r so_far now = rw (now, so_far, add-one)
+fewest_next column zero best r some-row small so_far now = absurd (omega arith)
+fewest_next column (suc k) best r some-row small so_far now =
+    let back : suc k - 1 ≡ k = omega arith in
+    let before = rw back at so_far in
+    rw (← before, below_in (get_or column (suc k) 0) (get_or column best 0) small) now
 
 pub fewest_le : (e : ℕ → Option ℕ) (k : ℕ) → fewest e k ≤ k
 unfolding fewest

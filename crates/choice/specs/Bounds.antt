@@ -1,18 +1,24 @@
 -- What a bound asks of the errors of all segments by the number of rows, `e`, over n segments in m runs.
-use Rattle.std.specs.Prelude.{ℕ, zero, suc, ◌-◌, ◌*◌, ◌≤◌, ◌<◌, min, Bool, true, false, ◌&&◌, cond, List, ◌≡◌, leb, get_or}
+use Rattle.std.specs.Prelude as std
+use Rattle.std.specs.Prelude.{Some, ℕ, zero, suc, ◌-◌, ◌*◌, ◌≤◌, ◌<◌, min, Bool, true, false, ◌&&◌, cond, List, ◌≡◌, leb, get_or}
+use native.Mathlib.Bridge.{le_prop}
+use Rattle.std.specs.Bool.{then_some}
 use Rattle.std.proofs.Math.Option.{Option}
-use Rattle.model.specs.Split.{least, within, fewest, most_rows}
+use Rattle.model.specs.Split.{within, fewest, most_rows}
 use Rattle.model.specs.Room.{most_error}
 use Rattle.model.specs.declared.Bound.{Bound}
 use Rattle.model.specs.declared.Bound.TheVariants.{Rows, Share}
-use Rattle.triangle.specs.Costs.{Costs}
-use Rattle.choice.specs.Errors.{error_in, Stands}
-use Rattle.choice.specs.declared.Choice.{Choice}
+use Rattle.choice.specs.Errors.{error_in}
 
 -- a row limit or a share within the paper's range
 unfoldable pub Known : Bound → Type 0
 Known (Rows c) = c ≤ 64
 Known (Share p) = p ≤ 1000
+
+pub known-prop : (bound : Bound) → IsProp (Known bound)
+unfolding Known
+known-prop (Rows c) = le_prop
+known-prop (Share p) = le_prop
 
 -- a row limit leaves a row for each run
 unfoldable pub covers_runs : Bound → ℕ → Bool
@@ -52,16 +58,7 @@ pub record Comparable (bound : Bound) (column : List ℕ) (m k : ℕ) : Type 0 w
   pub here : m ≤ k → get_or column k 0 ≤ most_error
   pub there : m ≤ k → get_or column m 0 ≤ most_error
 
--- the number of rows that answers the bound, by a column that is filled to `last`
-unfoldable pub choice_in : Bound → List ℕ → ℕ → ℕ → Choice
-choice_in (Rows c) column m last = record { found = true; count = fewest (λ k. error_in (get_or column k 0)) last }
-choice_in (Share p) column m last = record { found = meets_in (Share p) column m last; count = last }
-
--- a column of errors that is filled as far as a bound asks for, to `last` rows; there are segments, and rows for all runs
-pub record FilledColumn (err : ℕ → ℕ → ℕ) (low : ℕ → ℕ) (n m : ℕ) (bound : Bound) (column : List ℕ) (last : ℕ) : Type 0 where
-  pub costs : Costs err low n m
-  pub some_segments : 1 ≤ n
-  pub known : Known bound
-  pub covers : covers_runs bound m ≡ true
-  pub rows : last ≡ filled_rows bound (λ k. least err low k n) n m
-  pub errors : (k : ℕ) → k ≤ last → Stands (get_or column k 0) (least err low k n)
+-- the number of rows that answers the bound, if any does, by a column that is filled to `last`
+unfoldable pub choice_in : Bound → List ℕ → ℕ → ℕ → std.Option ℕ
+choice_in (Rows c) column m last = Some (fewest (λ k. error_in (get_or column k 0)) last)
+choice_in (Share p) column m last = then_some (meets_in (Share p) column m last) last

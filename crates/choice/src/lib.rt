@@ -1,33 +1,76 @@
 // How many rows of the split table a bound has tried, and how many rows answer it: by the errors of all segments for each number of
-// rows. Nothing here knows of segments, values or kinds.
+// rows. Nothing here knows of segments' values or kinds.
 #![tactic(auto)]
 
-ghost use Rattle.std.specs.Prelude.{◌≡◌, ◌&&◌, not, cond, ℕ, ◌≤◌, ◌<◌, min, ltb, get_or};
-ghost use Rattle.model.specs.Split.{fewest, below};
+ghost use Rattle.std.specs.Prelude.{◌≡◌, true, false, ◌&&◌, not, ℕ, ◌≤◌, ◌<◌, ltb, get_or, MatchOption};
+ghost use Rattle.model.specs.Split.{fewest};
 ghost use Rattle.choice.specs.Errors.{no_error, error_in};
-ghost use Rattle.choice.specs.Bounds.{last_row, covers_runs, meets_in, Comparable, choice_in};
+ghost use Rattle.choice.specs.Bounds.{Known, known-prop, last_row, covers_runs, meets_in, Comparable, choice_in};
 
 use model::{Bound, MOST_ROWS};
 
-// How many rows answer a bound, if any number does.
+// What is to be reduced: so many segments, of which there are some, in so many runs, to the rows that answer a bound. The bound is
+// known, and leaves a row for each run.
 #[derive(Clone, Copy)]
-pub struct Choice {
-    pub found: bool,
-    pub count: usize,
+pub struct Task {
+    pub segments: usize,
+    pub runs: usize,
+    pub bound: Bound,
+    ghost some_segments: { 1 ≤ segments },
+    ghost known: { Known bound } by { known-prop bound },
+    ghost covers: { covers_runs bound runs ≡ true },
 }
 
-fn lower(a: usize, b: usize) -> usize
-    ensures { result ≡ min a b }
-{
-    if a < b { a } else { b }
+impl Task {
+    // The task, unless the bound leaves no row for some run.
+    pub fn new(segments: usize, runs: usize, bound: Bound) -> Option<Task>
+        requires { (1 ≤ segments) × Known bound }
+        ensures { MatchOption result (covers_runs bound runs ≡ false) (λ task. (task.segments ≡ segments) × (task.runs ≡ runs) × (task.bound ≡ bound)) }
+    {
+        if !covers_runs(bound, runs) {
+            return None;
+        }
+        Some(Task {
+            segments,
+            runs,
+            bound,
+        })
+    }
+
+    // The last row of the table that may be tried.
+    pub fn last_row(self) -> usize
+        ensures { result ≡ last_row self.bound self.segments }
+    {
+        last_row(self.bound, self.segments)
+    }
+
+    // Whether another row is to be tried after row k.
+    pub fn goes_on(self, column: &[u64; 65], k: usize, last: usize) -> bool
+        requires { Comparable self.bound column.now self.runs k }
+        ensures { result ≡ ltb k last && not (meets_in self.bound column.now self.runs k) }
+    {
+        goes_on(self.bound, column, self.runs, k, last)
+    }
+
+    // The number of rows that answers the bound, if any does, from the errors of all segments in 0 to `last` rows.
+    pub fn choose(self, column: &[u64; 65], last: usize) -> Option<usize>
+        requires comparable { Comparable self.bound column.now self.runs last }
+        requires at_most_none { (k : ℕ) → k ≤ last → get_or column.now k 0 ≤ no_error }
+        ensures { result ≡ choice_in self.bound column.now self.runs last }
+    {
+        choose(self.bound, column, self.runs, last)
+    }
 }
+
+// These are functions of any bound, which need not leave a row for each run: a task's methods are theirs. They are public with these
+// clauses, and a task is narrower.
 
 // Whether a row limit leaves a row for each run; a share does not limit the rows.
 pub fn covers_runs(bound: Bound, runs: usize) -> bool
     ensures { result ≡ covers_runs bound runs }
 {
     match bound {
-        Bound::Rows(c) => runs <= (c as usize),
+        Bound::Rows(c) => runs <= usize::from(c),
         Bound::Share(_) => true,
     }
 }
@@ -37,8 +80,8 @@ pub fn last_row(bound: Bound, n: usize) -> usize
     ensures { result ≡ last_row bound n }
 {
     match bound {
-        Bound::Rows(c) => lower(c as usize, n),
-        Bound::Share(_) => lower(MOST_ROWS, n),
+        Bound::Rows(c) => usize::from(c).min(n),
+        Bound::Share(_) => MOST_ROWS.min(n),
     }
 }
 
@@ -49,12 +92,7 @@ fn met(bound: Bound, column: &[u64; 65], runs: usize, k: usize) -> bool
 {
     match bound {
         Bound::Rows(_) => false,
-        Bound::Share(p) => {
-            if k < runs {
-                return false;
-            }
-            column[k] * 1000 <= (p as u64) * column[runs]
-        }
+        Bound::Share(p) => runs <= k && column[k] * 1000 <= u64::from(p) * column[runs],
     }
 }
 
@@ -63,62 +101,34 @@ pub fn goes_on(bound: Bound, column: &[u64; 65], runs: usize, k: usize, last: us
     requires { Comparable bound column.now runs k }
     ensures { result ≡ ltb k last && not (meets_in bound column.now runs k) }
 {
-    if last <= k {
-        return false;
-    }
-    !met(bound, column, runs, k)
+    k < last && !met(bound, column, runs, k)
 }
 
-// Whether the first error is below the second: every number is below 'none'.
-fn less(a: u64, b: u64) -> bool
-    requires { b ≤ no_error }
-    ensures { result ≡ below (error_in a) (error_in b) }
+// The number of rows that answers a bound, if any does, from the errors of all segments in 0 to `last` rows.
+// The column is filled up to `last`, of which the clauses speak.
+pub fn choose(bound: Bound, column: &[u64; 65], runs: usize, last: usize) -> Option<usize>
+    requires comparable { Comparable bound column.now runs last }
+    requires at_most_none { (k : ℕ) → k ≤ last → get_or column.now k 0 ≤ no_error }
+    ensures { result ≡ choice_in bound column.now runs last }
 {
-    a < b
-}
-
-// The number of rows with the smaller error, `best` where they are equal.
-fn lesser(column: &[u64; 65], k: usize, best: usize) -> usize
-    requires { (k < 65) × (best < 65) × (get_or column.now best 0 ≤ no_error) }
-    ensures { result ≡ cond (below (error_in (get_or column.now k 0)) (error_in (get_or column.now best 0))) k best }
-{
-    if less(column[k], column[best]) {
-        k
-    } else {
-        best
+    match bound {
+        Bound::Rows(_) => Some(least_rows(column, last)),
+        Bound::Share(_) => met(bound, column, runs, last).then_some(last),
     }
 }
 
 // The fewest of 0 to `last` rows that have the least error.
+// No `min_by_key`: it gives an Option, of a range that is never empty.
 fn least_rows(column: &[u64; 65], last: usize) -> usize
-    requires last_bound { last < 65 }
-    requires by_index { (k : ℕ) → k ≤ last → get_or column.now k 0 ≤ no_error }
+    requires in_column { last < 65 }
+    requires at_most_none { (k : ℕ) → k ≤ last → get_or column.now k 0 ≤ no_error }
     ensures { result ≡ fewest (λ k. error_in (get_or column.now k 0)) last }
 {
-    let mut best: usize = 0;
-    let mut k: usize = 0;
-    while k < last {
-        k += 1;
-        let next = lesser(column, k, best);
-        best = next;
+    let mut best = 0;
+    for k in 1..=last {
+        if column[k] < column[best] {
+            best = k;
+        }
     }
     best
-}
-
-// The number of rows that answers a bound, from the errors of all segments in 0 to `last` rows.
-pub fn choose(bound: Bound, column: &[u64; 65], runs: usize, last: usize) -> Choice
-    requires comparable { Comparable bound column.now runs last }
-    requires by_index { (k : ℕ) → k ≤ last → get_or column.now k 0 ≤ no_error }
-    ensures { result ≡ choice_in bound column.now runs last }
-{
-    match bound {
-        Bound::Rows(_) => Choice {
-            found: true,
-            count: least_rows(column, last),
-        },
-        Bound::Share(_) => Choice {
-            found: met(bound, column, runs, last),
-            count: last,
-        },
-    }
 }

@@ -5,6 +5,7 @@ use mathlib.Core.List.{List, [], ◌∷◌, map}
 use mathlib.Core.Logic.{◌⊎◌, inl, inr}
 use mathlib.Core.Option.{Option, none, some}
 use mathlib.Core.Path.{◌≡◌, refl, ap, ap₂, ◌∙◌}
+use native.Mathlib.Decide.{dec_le}
 use native.Mathlib.Omega.{arith}
 use lib.Dec.{leb, eqb}
 use lib.IntN.{pos}
@@ -38,11 +39,23 @@ difference : (v r a d : ℕ) → squared v (pos r) + 2 * (v * r) ≡ v * v + r *
 difference v r a d apart (inl (low, high)) = rw (low, high) (omega (arith, rw (low, high) at apart))
 difference v r a d apart (inr (low, high)) = rw (low, high) (omega (arith, rw (low, high) at apart))
 
-pub squared_up : (v r : ℕ) → v ≤ r → squared v (pos r) ≡ (r - v) * (r - v)
+squared_up : (v r : ℕ) → v ≤ r → squared v (pos r) ≡ (r - v) * (r - v)
 squared_up v r le = difference v r v (r - v) (squared_pos v r) (inl (refl, omega arith))
 
-pub squared_down : (v r : ℕ) → r ≤ v → squared v (pos r) ≡ (v - r) * (v - r)
+squared_down : (v r : ℕ) → r ≤ v → squared v (pos r) ≡ (v - r) * (v - r)
 squared_down v r le = difference v r r (v - r) (squared_pos v r) (inr (refl, omega arith))
+
+-- as the library takes the difference
+pub squared_apart : (v r : ℕ) → squared v (pos r) ≡ (v - r + (r - v)) * (v - r + (r - v))
+squared_apart v r =
+    elim (dec_le v r) [
+      | yes le ↦
+          (let up : v - r + (r - v) ≡ r - v = omega arith in
+          rw up (squared_up v r le))
+      | no more ↦
+          (let down : v - r + (r - v) ≡ v - r = omega arith in
+          rw down (squared_down v r (omega arith)))
+    ]
 
 whole_cost : (g f : ℕ) (o : Option ℕ) (rows : List (Span ℕ)) → frame_cost squared o (value_in (map whole rows) g f) ≡ frame_cost squares o (value_in rows g f)
 unfolding value_in whole holds meets frame_cost

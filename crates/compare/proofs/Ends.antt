@@ -9,6 +9,8 @@ use native.Mathlib.Nat.{le_refl, sub-zero}
 use native.Mathlib.Omega.{arith}
 use lib.Dec.{ltb, eqb}
 use borrow.Author.Tests.{ltb-true, ltb-false, eq-eqb, ne_eqb}
+use Rattle.std.specs.Bool.{then_some}
+use Rattle.std.specs.Prelude.{None}
 use Rattle.model.specs.Common.{sum_of, list_from}
 use Rattle.model.specs.Spans.{Span, group_count, frame_count}
 use Rattle.model.specs.Fitting.{hits, due, squared_error, whole}
@@ -16,7 +18,7 @@ use Rattle.model.specs.Check.{same_cover, never_below}
 use Rattle.model.specs.Room.{Measured}
 use Rattle.model.specs.Demands.{Segmentation}
 use Rattle.slot.specs.Places.{place_of}
-use Rattle.theory.proofs.Tests.{cases, true≢false, is_false, true_holds}
+use Rattle.theory.proofs.Tests.{cases, is_false, true_holds}
 use Rattle.theory.proofs.Lists.{list_from_left, none_left}
 use Rattle.theory.proofs.Frames.{Heads, From, hits_sum}
 use Rattle.theory.proofs.Converse.{list_from_member}
@@ -169,17 +171,17 @@ module _ (h k : ℕ → Span ℕ) (c n : ℕ) where
 
     -- not the same frames
     different : ((val : ℕ → ℕ → Option ℕ) → Segmentation val S → same_cover val R ≡ false)
-        → Compares R S (record { same = false; reaches = reaches; error = error })
+        → Compares R S None
     different apart =
         record {
           same = λ val is. sym (apart val is);
-          reaches = λ val is e. absurd (true≢false (sym e));
-          error = λ val is e. absurd (true≢false (sym e));
+          reaches = λ val is. tt;
+          error = λ val is. tt;
         }
 
     -- a row begins before what is left of the segments, or a segment before what is left of the rows
     row_first : i < c → (j < n → first_place p (h i) < first_place p (k j))
-        → Compares R S (record { same = false; reaches = reaches; error = error })
+        → Compares R S None
     unfolding frame_count
     row_first lt later =
         let (group, proper, last, small) = row_held lt in
@@ -192,7 +194,7 @@ module _ (h k : ℕ → Span ℕ) (c n : ℕ) where
         differ order val is i j p reaches error w (h i).group (trim p (h i)).first group in_range (λ e. omega arith))
 
     seg_first : j < n → (i < c → first_place p (k j) < first_place p (h i))
-        → Compares R S (record { same = false; reaches = reaches; error = error })
+        → Compares R S None
     unfolding frame_count
     seg_first lt later =
         let (group, proper, last, small) = seg_held lt in
@@ -206,7 +208,7 @@ module _ (h k : ℕ → Span ℕ) (c n : ℕ) where
 
     -- the two at hand do not begin together
     pub apart : i < c → j < n → (first_place p (h i) ≡ first_place p (k j) → ⊥)
-        → Compares R S (record { same = false; reaches = reaches; error = error })
+        → Compares R S None
     apart lt lt' other =
         let at_row = first_place p (h i) in
         let at-seg = first_place p (k j) in
@@ -214,7 +216,8 @@ module _ (h k : ℕ → Span ℕ) (c n : ℕ) where
         (λ e. seg_first lt' (λ x. omega (arith, ltb-false at_row at-seg e, other)))
 
     -- or nothing is left of one of the two
-    pub ended : (i < c → j < n → ⊥) → Compares R S (record { same = eqb i c && eqb j n; reaches = reaches; error = error })
+    pub ended : (i < c → j < n → ⊥)
+        → Compares R S (then_some (eqb i c && eqb j n) (record { reaches = reaches; error = error }))
     ended past =
         cases (ltb i c)
         (λ e.
@@ -233,6 +236,6 @@ module _ (h k : ℕ → Span ℕ) (c n : ℕ) where
         rw (eq-eqb i c (omega arith), eq-eqb j n (omega arith))
         (record {
           same = λ val is. sym (finish order val is i j p reaches error w ge ge').0;
-          reaches = λ val is t. (finish order val is i j p reaches error w ge ge').1;
-          error = λ val is t. (finish order val is i j p reaches error w ge ge').2;
+          reaches = λ val is. (finish order val is i j p reaches error w ge ge').1;
+          error = λ val is. (finish order val is i j p reaches error w ge ge').2;
         })))

@@ -1,29 +1,32 @@
 -- Rows and segments walked together: what is so of the walk at every turn, and that a turn keeps it. Assumes nothing.
 use Prim.Native.Nat.{ℕ, suc, ◌+◌, ◌*◌, ◌-◌, ◌≤◌, ◌<◌, min}
-use mathlib.Core.Bool.{Bool, ◌&&◌, cond, and-true, and-false}
+use mathlib.Core.Bool.{Bool, true, false, ◌&&◌, cond, and-true, and-false}
 use mathlib.Core.List.{List, ◌∷◌, Memᴰ}
 use mathlib.Core.Option.{Option}
-use mathlib.Core.Path.{◌≡◌, sym, ◌∙◌}
+use mathlib.Core.Path.{◌≡◌, refl, sym, ap, ◌∙◌}
 use native.Mathlib.Nat.{le_refl}
 use native.Mathlib.Numerals.{add-one}
 use native.Mathlib.Omega.{arith}
 use lib.Dec.{leb, eqb}
 use lib.IntN.{pos}
-use borrow.Author.Tests.{eqb-false, ne_eqb}
+use mir.Val.{bool_byte}
+use borrow.Author.Tests.{eqb-true, eqb-false, eq-eqb, ne_eqb}
+use Rattle.std.specs.Prelude as std
 use Rattle.model.specs.Common.{sum_of, list_from}
 use Rattle.model.specs.Spans.{Span, frame_count, span_length, holds}
 use Rattle.model.specs.Blocks.{squared}
 use Rattle.model.specs.Questions.{most_value}
 use Rattle.model.specs.Room.{most_error}
 use Rattle.slot.specs.Places.{place_of}
-use Rattle.theory.proofs.Tests.{cases}
+use Rattle.theory.proofs.Tests.{cases, true≢false}
 use Rattle.theory.proofs.Lists.{list_from_left}
 use Rattle.theory.proofs.Bounds.{mul_le, squared_le}
 use Rattle.theory.proofs.Frames.{Heads, Piece}
 use Rattle.theory.proofs.Converse.{list_from_member}
 use Rattle.theory.proofs.InOrder.{InOrder}
 use Rattle.theory.proofs.Stored.{Held}
-use Rattle.compare.specs.Fronts.{first_place, last_place, end_place}
+use Rattle.compare.specs.declared.Front.{Front}
+use Rattle.compare.specs.Fronts.{first_place, last_place, end_place, front_of}
 use Rattle.compare.proofs.Fronts.{span, trim, clip, Reaches, trim_place, trim_from, Adds, span_length_lem, length_adds, holds_adds, holds_alike, cost_in, cost_adds, cost_front, left, front_off, left_reaches}
 
 -- what a row's number costs a frame: its squared difference, and 1 where it is below the frame's value
@@ -39,6 +42,39 @@ none_short short frames v r some_frame =
     cases (leb v r)
     (λ t. rw t (let same : short + frames * 0 ≡ short = omega arith in rw same (and-true (eqb short 0))))
     (λ t. rw t (and-false (eqb short 0) ∙ sym (ne_eqb (short + frames * 1) 0 (λ e. omega arith))))
+
+-- one further, where the one at hand is done
+pub went_on : (done : Bool) (i : ℕ) → i + bool_byte done ≡ cond done (i + 1) i
+went_on true i = refl
+went_on false i = omega arith
+
+pub one_at_most : (done : Bool) → bool_byte done ≤ 1
+one_at_most true = omega arith
+one_at_most false = omega arith
+
+-- the front of two that begin together
+the : Front → std.Option Front → Front
+the f std.None = f
+the f (std.Some g) = g
+
+module _ (r s : Span ℕ) (p : ℕ) where
+  pub fronted : (f : Front) → std.Some f ≡ front_of r s p
+      → (first_place p r ≡ first_place p s)
+      × (f
+      ≡ record {
+        first = first_place p s;
+        next = end_place r s + 1;
+        row_done = eqb (last_place r) (end_place r s);
+        segment_done = eqb (last_place s) (end_place r s);
+      })
+  unfolding front_of the
+  fronted f is =
+      cases (eqb (first_place p r) (first_place p s)) (λ t. (eqb-true _ _ t, ap (the f) (rw t at is)))
+      (λ t. absurd (true≢false (ap std.is_some (rw t at is))))
+
+  pub not_fronted : ◌≡◌ {A = std.Option Front} std.None (front_of r s p) → first_place p r ≡ first_place p s → ⊥
+  unfolding front_of
+  not_fronted is level = true≢false (sym (ap std.is_some (rw (eq-eqb _ _ level) at is)))
 
 -- rows h and segments k, by number
 module _ (h k : ℕ → Span ℕ) (c n : ℕ) where

@@ -1,6 +1,7 @@
 -- What is found of rows beside segments: what the definitions say, frame by frame, of the rows and of any values whose segmentation the
 -- segments are.
-use Rattle.std.specs.Prelude.{ℕ, true, List, map, ◌≡◌}
+use Rattle.std.specs.Prelude as std
+use Rattle.std.specs.Prelude.{ℕ, List, map, ◌≡◌, is_some, IfSome}
 use Rattle.std.proofs.Math.Option.{Option}
 use Rattle.model.specs.Spans.{Span}
 use Rattle.model.specs.Fitting.{squared_error, whole}
@@ -14,8 +15,9 @@ use Rattle.compare.specs.declared.Compared.{Compared}
 abbrev pub OfLog : List (Span ℕ) → Type 0
 OfLog segs = (kind width : ℕ) × (log : List ℕ) × AllPass (log_questions log) × (segs ≡ log_segments kind width log)
 
-pub record Compares (rows segs : List (Span ℕ)) (c : Compared) : Type 0 where
-  pub same : (val : ℕ → ℕ → Option ℕ) → Segmentation val segs → c.same ≡ same_cover val rows
-  pub reaches : (val : ℕ → ℕ → Option ℕ) → Segmentation val segs → c.same ≡ true → c.reaches ≡ never_below val rows
-  pub error : (val : ℕ → ℕ → Option ℕ) → Segmentation val segs → c.same ≡ true
-      → c.error ≡ squared_error val (map whole rows)
+-- something is found where the frames covered are the same, and then what the definitions say
+pub record Compares (rows segs : List (Span ℕ)) (c : std.Option Compared) : Type 0 where
+  pub same : (val : ℕ → ℕ → Option ℕ) → Segmentation val segs → is_some c ≡ same_cover val rows
+  pub reaches : (val : ℕ → ℕ → Option ℕ) → Segmentation val segs → IfSome c (λ found. found.reaches ≡ never_below val rows)
+  pub error : (val : ℕ → ℕ → Option ℕ) → Segmentation val segs
+      → IfSome c (λ found. found.error ≡ squared_error val (map whole rows))

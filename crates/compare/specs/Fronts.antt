@@ -1,5 +1,5 @@
 -- The front of a row and a segment, in the order of all groups' frames.
-use Rattle.std.specs.Prelude.{ℕ, ◌+◌, min, max, eqb}
+use Rattle.std.specs.Prelude.{ℕ, ◌+◌, min, max, eqb, cond, Option, Some, None}
 use Rattle.model.specs.Spans.{Span}
 use Rattle.slot.specs.Places.{place_of}
 use Rattle.compare.specs.declared.Front.{Front}
@@ -15,12 +15,15 @@ last_place s = place_of s.group s.last
 abbrev pub end_place : Span ℕ → Span ℕ → ℕ
 end_place r s = min (last_place r) (last_place s)
 
-unfoldable pub front_of : Span ℕ → Span ℕ → ℕ → Front
+-- none where they do not begin together
+unfoldable pub front_of : Span ℕ → Span ℕ → ℕ → Option Front
 front_of r s p =
-    record {
-      together = eqb (first_place p r) (first_place p s);
+    cond (eqb (first_place p r) (first_place p s))
+    (Some
+    (record {
       first = first_place p s;
       next = end_place r s + 1;
       row_done = eqb (last_place r) (end_place r s);
       segment_done = eqb (last_place s) (end_place r s);
-    }
+    }))
+    None

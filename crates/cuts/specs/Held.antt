@@ -1,10 +1,12 @@
 -- What a filled split table holds, and the reduction that is read back from it.
-use Rattle.std.specs.Prelude.{ℕ, zero, suc, ◌+◌, ◌*◌, ◌<◌, true, false, List, [], ◌∷◌, ◌++◌, ◌≡◌, get_or, drop}
+use Rattle.std.specs.Prelude as std
+use Rattle.std.specs.Prelude.{Some, None, ℕ, zero, suc, ◌+◌, ◌*◌, ◌<◌, List, [], ◌∷◌, ◌++◌, ◌≡◌, get_or, drop}
 use Rattle.std.proofs.Math.Option
 use Rattle.std.proofs.Math.Option.{none, some}
 use Rattle.model.specs.Split.{least, cuts_of, weighed, table_place, chosen, rows_tried}
 use Rattle.model.specs.declared.Bound.{Bound}
-use Rattle.choice.specs.Bounds.{FilledColumn}
+use Rattle.choice.specs.Columns.{FilledColumn}
+use Rattle.choice.specs.declared.Task.{Task}
 use Rattle.cuts.specs.declared.Reduction.{Reduction}
 
 -- the cuts of k blocks of the first i segments that a table holds, the last one first
@@ -23,27 +25,22 @@ ascending [] = []
 ascending (j ∷ js) = ascending js ++ (j ∷ [])
 
 -- a filled table: its places, the errors of all segments in 0 to `last` rows, and the cuts weighed
-pub record Fills (err : ℕ → ℕ → ℕ) (low : ℕ → ℕ) (n m : ℕ) (bound : Bound) (table column : List ℕ) (last tried : ℕ) : Type 0 where
-  pub filled : FilledColumn err low n m bound column last
-  pub places : (x : ℕ) → x < 16384 → get_or table x 0 ≡ table_place err low last n x
-  pub weighed : tried ≡ weighed err low last n
+pub record Fills (err : ℕ → ℕ → ℕ) (low : ℕ → ℕ) (task : Task) (table column : List ℕ) (last tried : ℕ) : Type 0 where
+  pub filled : FilledColumn err low task column last
+  pub places : (x : ℕ) → x < 16384 → get_or table x 0 ≡ table_place err low last task.segments x
+  pub weighed : tried ≡ weighed err low last task.segments
 
--- where no number of rows answers the bound
-abbrev pub no_reduction : Reduction
-no_reduction = record { found = false; count = 0; error = 0; weighed = 0 }
-
--- the reduction of n segments in m runs that answers a bound
-unfoldable pub reduction_for : (ℕ → ℕ → ℕ) → (ℕ → ℕ) → ℕ → ℕ → Bound → Reduction
+-- the reduction of n segments in m runs that answers a bound, if there is one
+unfoldable pub reduction_for : (ℕ → ℕ → ℕ) → (ℕ → ℕ) → ℕ → ℕ → Bound → std.Option Reduction
 reduction_for err low n m bound =
     elim (chosen bound (λ k. least err low k n) n m) [
-      | none ↦ no_reduction
+      | none ↦ None
       | some k ↦
-          record {
-            found = true;
+          Some (record {
             count = k;
             error = Option.get_or (least err low k n) 0;
             weighed = weighed err low (rows_tried bound n k) n;
-          }
+          })
     ]
 
 -- what a lent list of cuts holds then: the first segment of each block, in order, and behind them what it held

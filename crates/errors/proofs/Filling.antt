@@ -8,6 +8,7 @@ use lib.ListN.{length, set, length-set}
 use lib.Seq.{get_or-set_other}
 use Rattle.model.specs.Spans.{Span}
 use Rattle.model.specs.Blocks.{Totals, totals, block_error}
+use Rattle.model.specs.declared.Segments.{Segments}
 use Rattle.theory.proofs.Lists.{after_set}
 use Rattle.blocks.specs.Meaning.{error_from}
 use Rattle.blocks.proofs.Bounds.{error_from-block}
@@ -21,21 +22,21 @@ pub block_error_lem : (kind : ℕ) (b : List (Span ℕ)) (t : Totals) (e : ℕ) 
     → e ≡ block_error kind b
 block_error_lem kind b t e is from = from ∙ rw is (error_from-block kind b)
 
-module _ (kind : ℕ) (firsts lasts values : List ℕ) (i start : ℕ) (before : List ℕ) where
+module _ (kind : ℕ) (segments : Segments) (i start : ℕ) (before : List ℕ) where
   -- no block yet
-  pub row_begins : EndingAt kind firsts lasts values i i start before before
+  pub row_begins : EndingAt kind segments i i start before before
   row_begins = record { size = refl; errors = λ j lo hi. absurd (omega arith); others = λ x lt. refl }
 
   -- one block more, that from at − 1 on
-  pub row_next : {at e : ℕ} {errors : List ℕ} → EndingAt kind firsts lasts values at i start before errors → 0 < at → at ≤ i
-      → start + i ≤ length before → e ≡ block_error kind (block_in firsts lasts values (at - 1) i)
-      → EndingAt kind firsts lasts values (at - 1) i start before (set errors (start + (at - 1)) e)
+  pub row_next : {at e : ℕ} {errors : List ℕ} → EndingAt kind segments at i start before errors → 0 < at → at ≤ i
+      → start + i ≤ length before → e ≡ block_error kind (block_in segments (at - 1) i)
+      → EndingAt kind segments (at - 1) i start before (set errors (start + (at - 1)) e)
   row_next {at} {e} {errors} row lo hi room is =
       let size = row.size in
       record {
         size = simp length-set size;
         errors = λ j ge lt.
-            after_set (λ x v. x ≡ start + j → v ≡ block_error kind (block_in firsts lasts values j i)) errors (start + (at - 1)) e
+            after_set (λ x v. x ≡ start + j → v ≡ block_error kind (block_in segments j i)) errors (start + (at - 1)) e
             (omega arith)
             (λ here. let same : at - 1 ≡ j = omega arith in rw same at is)
             (start + j) (λ other here. row.errors j (omega arith) lt) refl;
@@ -43,18 +44,18 @@ module _ (kind : ℕ) (firsts lasts values : List ℕ) (i start : ℕ) (before :
       }
 
 -- the rows to i are filled; `before` had as many places
-pub record Rows (kind : ℕ) (firsts lasts values gaps before : List ℕ) (n i start : ℕ) (errors : List ℕ) : Type 0 where
+pub record Rows (kind : ℕ) (segments : Segments) (gaps before : List ℕ) (n i start : ℕ) (errors : List ℕ) : Type 0 where
   pub to : i ≤ n
   pub begins : start ≡ row_start i
   pub size : length errors ≡ length before
-  pub held : (j x : ℕ) → gap_at gaps x ≤ j → j < x → x ≤ i → error_at errors j x ≡ block_error kind (block_in firsts lasts values j x)
+  pub held : (j x : ℕ) → gap_at gaps x ≤ j → j < x → x ≤ i → error_at errors j x ≡ block_error kind (block_in segments j x)
 
-pub rows_begin : (kind : ℕ) (firsts lasts values gaps before : List ℕ) (n : ℕ) → Rows kind firsts lasts values gaps before n 0 0 before
+pub rows_begin : (kind : ℕ) (segments : Segments) (gaps before : List ℕ) (n : ℕ) → Rows kind segments gaps before n 0 0 before
 unfolding row_start
-rows_begin kind firsts lasts values gaps before n =
+rows_begin kind segments gaps before n =
     record { to = omega arith; begins = refl; size = refl; held = λ j x above lt le. absurd (omega arith) }
 
-module _ {kind : ℕ} {firsts lasts values gaps before : List ℕ} {n i start : ℕ} {errors : List ℕ} (rows : Rows kind firsts lasts values gaps before n i start errors) (more : i < n) where
+module _ {kind : ℕ} {segments : Segments} {gaps before : List ℕ} {n i start : ℕ} {errors : List ℕ} (rows : Rows kind segments gaps before n i start errors) (more : i < n) where
   -- where the next row begins, and that there is room for it
   pub next_start : start + i ≡ row_start (i + 1)
   next_start = rw (rows.begins, start_next i)
@@ -65,8 +66,8 @@ module _ {kind : ℕ} {firsts lasts values gaps before : List ℕ} {n i start : 
       omega (arith, next_start, rows.size)
 
   pub rows_next : {low : ℕ} {errors' : List ℕ} → low ≡ gap_at gaps (i + 1)
-      → EndingAt kind firsts lasts values low (i + 1) (start + i) errors errors'
-      → Rows kind firsts lasts values gaps before n (i + 1) (start + i) errors'
+      → EndingAt kind segments low (i + 1) (start + i) errors errors'
+      → Rows kind segments gaps before n (i + 1) (start + i) errors'
   unfolding error_at
   rows_next {low} {errors'} is-low row =
       record {

@@ -3,74 +3,57 @@
 #![tactic(auto)]
 
 ghost use Rattle.std.specs.Prelude.{◌≡◌, ℕ, ◌+◌, ◌≤◌, ◌<◌, length};
+ghost use Rattle.model.specs.Calls.{kind_number};
 ghost use Rattle.measures.specs.Held.{Measurable};
 ghost use Rattle.triangle.specs.Places.{row_start, error_at, gap_at, Agree};
 ghost use Rattle.errors.specs.Filled.{cost_in, EndingAt};
 
 use blocks::Totals;
-use common::wide;
 use measures::with_segment;
+use model::{Kind, Segments};
 
-// The error of the block of the first n segments.
-pub fn whole(
-    firsts: &[u16; 255],
-    lasts: &[u16; 255],
-    values: &[u32; 255],
-    n: usize,
-    kind: u8,
-) -> u64
-    requires { Measurable firsts.now lasts.now values.now n }
-    ensures { result ≡ cost_in kind firsts.now lasts.now values.now 0 n }
+// The error of the block of all segments.
+pub fn whole(segments: &Segments, kind: Kind) -> u64
+    requires { Measurable segments.now segments.now.count }
+    ensures { result ≡ cost_in (kind_number kind) segments.now 0 segments.now.count }
 {
-    measures::block_totals(firsts, lasts, values, 0, n).error(kind)
+    measures::block_totals(segments, 0, segments.count).error(kind)
 }
 
 // The errors of the blocks that end with segment i − 1 and begin with `low` or later, into the places from `start` on; all other
 // places keep what they hold.
-fn fill_row(
-    firsts: &[u16; 255],
-    lasts: &[u16; 255],
-    values: &[u32; 255],
-    low: usize,
-    i: usize,
-    kind: u8,
-    start: usize,
-    errors: &mut [u64],
-)
-    requires low_le_i { (low ≤ i) × Measurable firsts.now lasts.now values.now i }
-    requires i_in_bounds { start + i ≤ length errors.old }
-    ensures { EndingAt kind firsts.now lasts.now values.now low i start errors.old errors.new }
+fn fill_row(segments: &Segments, low: usize, i: usize, kind: Kind, start: usize, errors: &mut [u64])
+    requires low_in_block { low ≤ i }
+    requires measurable { Measurable segments.now i }
+    requires places { start + i ≤ length errors.old }
+    ensures { EndingAt (kind_number kind) segments.now low i start errors.old errors.new }
 {
     let mut block = Totals::EMPTY;
-    let mut at: usize = i;
-    while low < at {
-        at -= 1;
-        let wider = with_segment(firsts, lasts, values, at, block);
+    for at in (low..i).rev() {
+        let wider = with_segment(segments, at, block);
         errors[start + at] = wider.error(kind);
         block = wider;
     }
 }
 
-// The errors of all blocks of the first n segments that cross no gap.
-pub fn fill(
-    firsts: &[u16; 255],
-    lasts: &[u16; 255],
-    values: &[u32; 255],
-    gaps: &[u8; 256],
-    n: usize,
-    kind: u8,
-    errors: &mut [u64],
-)
-    requires measurable { Measurable firsts.now lasts.now values.now n }
-    requires by_index { (i : ℕ) → 0 < i → i ≤ n → gap_at gaps.now i < i }
-    requires n_in_bounds { row_start (n + 1) ≤ length errors.old }
-    ensures { Agree (error_at errors.new) (gap_at gaps.now) (cost_in kind firsts.now lasts.now values.now) (gap_at gaps.now) n }
+// The errors of all blocks that cross no gap.
+pub fn fill(segments: &Segments, gaps: &[u8; 256], kind: Kind, errors: &mut [u64])
+    requires measurable { Measurable segments.now segments.now.count }
+    requires gaps_below { (i : ℕ) → 0 < i → i ≤ segments.now.count → gap_at gaps.now i < i }
+    requires places { row_start (segments.now.count + 1) ≤ length errors.old }
+    ensures { Agree (error_at errors.new) (gap_at gaps.now) (cost_in (kind_number kind) segments.now) (gap_at gaps.now) segments.now.count }
 {
     let mut start: usize = 0;
-    let mut i: usize = 0;
-    while i < n {
+    for i in 0..segments.count {
+        // a running sum: the start of a row would be multiplied out at each turn
         start += i;
-        i += 1;
-        fill_row(firsts, lasts, values, wide(gaps[i]), i, kind, start, errors);
+        fill_row(
+            segments,
+            usize::from(gaps[i + 1]),
+            i + 1,
+            kind,
+            start,
+            errors,
+        );
     }
 }

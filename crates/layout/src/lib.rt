@@ -7,27 +7,30 @@ ghost use Rattle.model.specs.Slot.{row_bytes, slot_bytes};
 ghost use Rattle.model.specs.Calls.{row_span};
 ghost use Rattle.model.specs.Arrays.{rows_in};
 
-use common::{copy, low, no_slot, place};
+use common::{copy, no_slot, place};
 use model::{MOST_ROWS, Row, SLOT_LENGTH};
 
 // A slot's header: mark, whose second byte is given, kind, row count and error.
+// Byte by byte, as the layout has them: slices put one behind the other would be no plainer.
 fn header_bytes(mark: u8, kind: u8, count: usize, error: u64) -> [u8; 12]
     requires { count ≤ 64 }
     ensures { result ≡ 0x50 ∷ mark ∷ kind ∷ count ∷ bytes_of 8 error }
 {
+    let error = error.to_le_bytes();
     [
         0x50,
         mark,
         kind,
+        // no `From` narrows; the clause bounds the count
         count as u8,
-        low(error),
-        low(error / 0x100),
-        low(error / 0x1_0000),
-        low(error / 0x100_0000),
-        low(error / 0x1_0000_0000),
-        low(error / 0x100_0000_0000),
-        low(error / 0x1_0000_0000_0000),
-        low(error / 0x100_0000_0000_0000),
+        error[0],
+        error[1],
+        error[2],
+        error[3],
+        error[4],
+        error[5],
+        error[6],
+        error[7],
     ]
 }
 
@@ -35,25 +38,19 @@ fn header_bytes(mark: u8, kind: u8, count: usize, error: u64) -> [u8; 12]
 fn row_bytes(row: Row) -> [u8; 11]
     ensures { result ≡ row_bytes (row_span row) }
 {
-    let first = row.first as u64;
-    let last = row.last as u64;
-    let value = row.value as u64;
+    let first = row.first.to_le_bytes();
+    let last = row.last.to_le_bytes();
+    let value = row.value.to_le_bytes();
     [
-        0x50,
-        0x52,
-        row.group,
-        low(first),
-        low(first / 0x100),
-        low(last),
-        low(last / 0x100),
-        low(value),
-        low(value / 0x100),
-        low(value / 0x1_0000),
-        low(value / 0x100_0000),
+        0x50, 0x52, row.group, first[0], first[1], last[0], last[1], value[0], value[1], value[2],
+        value[3],
     ]
 }
 
 // The slot of a mark's second byte, a kind, an error and the first `count` rows.
+#[tactic(auto, unfolding(model::specs::Slot::row_place))]
+// The kind is a byte of the header, and the rows are the first of 64 places: the clause speaks of both so.
+// Mark, kind, error and count are no `Header`: a header is what a slot that is read says.
 pub fn layout(
     mark: u8,
     kind: u8,
@@ -67,12 +64,10 @@ pub fn layout(
     let mut slot = no_slot();
     let header = header_bytes(mark, kind, count, error);
     copy(&header, &mut slot);
-    let mut i: usize = 0;
-    while i < count {
+    for i in 0..count {
         let row = row_bytes(rows[i]);
         let at = place(i);
         copy(&row, &mut slot[at..]);
-        i += 1;
     }
     slot
 }

@@ -1,3 +1,2 @@
--- What the walker's answers are, and what the reader's rows are copied from.
+-- What the walker's answers are.
 pub mod Walk
-pub mod Rows

@@ -12,13 +12,6 @@ pub struct Walker<'a> {
     pub next: usize,
 }
 
-// A step, and the walker after it.
-#[derive(Clone, Copy)]
-pub struct Stepped<'a> {
-    pub walker: Walker<'a>,
-    pub step: Step,
-}
-
 impl<'a> Walker<'a> {
     // A walker at a slot's first row.
     pub fn new(slot: &'a [u8]) -> Walker<'a>
@@ -28,17 +21,14 @@ impl<'a> Walker<'a> {
     }
 
     // The next row, or the end.
-    pub fn step(self) -> Stepped<'a>
-        ensures { (result.walker.slot ≡ self.entry.slot) × (result.walker.next ≡ step_next self.entry.slot.now self.entry.next) × (step_case result.step ≡ step_outcome self.entry.slot.now self.entry.next) }
+    pub fn step(&mut self) -> Step
+        ensures same_slot { self.new.slot ≡ self.old.slot }
+        ensures goes_on { self.new.next ≡ step_next self.old.slot.now self.old.next }
+        ensures says { step_case result ≡ step_outcome self.old.slot.now self.old.next }
     {
         let walked = reader::row_at(self.slot, self.next);
-        Stepped {
-            walker: Walker {
-                slot: self.slot,
-                next: walked.next,
-            },
-            step: walked.step,
-        }
+        self.next = walked.next;
+        walked.step
     }
 }
 
@@ -47,12 +37,8 @@ pub fn walked(slot: &[u8], steps: usize) -> Step
     ensures { step_case result ≡ step_outcome slot.now (number_after slot.now steps) }
 {
     let mut walker = Walker::new(slot);
-    let mut taken: usize = 0;
-    while taken < steps {
-        let stepped = walker.step();
-        walker = stepped.walker;
-        taken += 1;
+    for _ in 0..steps {
+        let _ = walker.step();
     }
-    let last = walker.step();
-    last.step
+    walker.step()
 }

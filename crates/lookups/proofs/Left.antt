@@ -1,14 +1,31 @@
--- What a call leaves in the two lists: as they were where it is refused, and else what is written for every pair. Assumes nothing.
+-- What is written for a pair, and what a call leaves in the two lists: as they were where it is refused, and else what is written for
+-- every pair. Assumes nothing.
 use Prim.Native.Nat.{ℕ}
 use mathlib.Core.List.{List}
 use mathlib.Core.Option.{Option}
 use mathlib.Core.Path.{◌≡◌, refl, sym, ◌∙◌}
 use lib.ListN.{length}
+use mir.Val.{bool_byte}
+use Rattle.std.specs.Prelude as code
+use Rattle.std.specs.Prelude.{None, Some}
+use Rattle.std.specs.Option.{unwrap_or, is_some}
+use Rattle.model.specs.Common.{option_of}
 use Rattle.model.specs.Questions.{Outcome, refused, accepted}
 use Rattle.model.specs.Lookups.{lookups_questions, lookups_outcome, value_shown, covered_shown, pairs_shown, lookups_list, lookups_values, lookups_covered}
 use Rattle.model.specs.Demands.{LookupsPromise}
 use Rattle.theory.proofs.Refusals.{passed_lent, refused_lent}
 use Rattle.theory.proofs.Lookups.{lookups_promise}
+
+-- the value that is written for what was found, and the flag
+pub value_written : (found : code.Option ℕ) → unwrap_or found 0 ≡ value_shown (option_of found)
+unfolding option_of value_shown
+value_written None = refl
+value_written (Some value) = refl
+
+pub flag_written : (found : code.Option ℕ) → bool_byte (is_some found) ≡ covered_shown (option_of found)
+unfolding option_of covered_shown
+flag_written None = refl
+flag_written (Some value) = refl
 
 module _ (slot groups frames values covered : List ℕ) (said : Outcome (Unit {0}))
     (is : said ≡ lookups_outcome slot groups (length frames) (length values) (length covered)) where

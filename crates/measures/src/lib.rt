@@ -1,8 +1,8 @@
-// What is measured of segments in arrays: where runs begin, how many there are, and the totals of a block. Groups play no part in
-// what a block costs, and values none in where it may be cut.
+// What is measured of segments: where runs begin, how many there are, and the totals of a block. Groups play no part in what a block
+// costs, and values none in where it may be cut.
 #![tactic(auto)]
 
-ghost use Rattle.std.specs.Prelude.{◌≡◌, cond, List, [], ℕ, suc, ◌-◌, ◌<◌, ◌≤◌, get_or, replicate};
+ghost use Rattle.std.specs.Prelude.{◌≡◌, List, [], ℕ, ◌<◌, ◌≤◌, get_or};
 ghost use Rattle.model.specs.Blocks.{gap, totals, add};
 ghost use Rattle.model.specs.Split.{gap_below, runs};
 ghost use Rattle.model.specs.Arrays.{span_in, spans_in};
@@ -10,122 +10,66 @@ ghost use Rattle.blocks.specs.Meaning.{totals_in};
 ghost use Rattle.measures.specs.Held.{block_in, segment_totals, Growing, Measurable};
 
 use blocks::Totals;
-
-// No gaps.
-fn no_gaps() -> [u8; 256]
-    ensures { result ≡ replicate 256 0 }
-{
-    [0u8; 256]
-}
-
-// A frame as a wider number.
-fn wide_frame(x: u16) -> u64
-    ensures { (result ≡ x) × (result < 65536) }
-{
-    x as u64
-}
-
-// The frame after a frame. That of 65,535 is 65,536.
-fn after(frame: u16) -> u64
-    ensures { (result ≡ suc frame) × (result < 65537) }
-{
-    wide_frame(frame) + 1
-}
+use model::Segments;
 
 // Whether a run begins with segment i.
-fn is_gap(groups: &[u8; 255], firsts: &[u16; 255], lasts: &[u16; 255], i: usize) -> bool
+fn is_gap(segments: &Segments, i: usize) -> bool
     requires { i < 255 }
-    ensures { result ≡ gap (span_in groups.now firsts.now lasts.now []) i }
+    ensures { result ≡ gap (span_in segments.now.groups segments.now.firsts segments.now.lasts []) i }
 {
-    if i == 0 {
-        return true;
-    }
-    if groups[i - 1] != groups[i] {
-        return true;
-    }
-    after(lasts[i - 1]) != wide_frame(firsts[i])
-}
-
-// One of two numbers.
-fn pick(first: bool, a: usize, b: usize) -> usize
-    ensures { result ≡ cond first a b }
-{
-    if first { a } else { b }
-}
-
-fn counted(gap: bool, runs: usize) -> usize
-    requires { runs < 256 }
-    ensures { result ≡ cond gap (suc runs) runs }
-{
-    if gap { runs + 1 } else { runs }
+    i == 0
+        || segments.groups[i - 1] != segments.groups[i]
+        || u64::from(segments.lasts[i - 1]) + 1 != u64::from(segments.firsts[i])
 }
 
 // The last gap below each number of segments.
-pub fn gaps(groups: &[u8; 255], firsts: &[u16; 255], lasts: &[u16; 255], n: usize) -> [u8; 256]
-    requires { n ≤ 255 }
-    ensures { (values : List ℕ) (i : ℕ) → i ≤ n → get_or result i 0 ≡ gap_below (spans_in groups.now firsts.now lasts.now values n) i }
+pub fn gaps(segments: &Segments) -> [u8; 256]
+    requires { segments.now.count ≤ 255 }
+    ensures { (values : List ℕ) (i : ℕ) → i ≤ segments.now.count
+        → get_or result i 0 ≡ gap_below (spans_in segments.now.groups segments.now.firsts segments.now.lasts values segments.now.count) i }
 {
-    let mut out = no_gaps();
+    let mut out = [0u8; 256];
     let mut low: usize = 0;
-    let mut i: usize = 0;
-    while i < n {
-        let begins = is_gap(groups, firsts, lasts, i);
-        let next = pick(begins, i, low);
-        low = next;
-        i += 1;
-        out[i] = low as u8;
+    for i in 0..segments.count {
+        low = if is_gap(segments, i) { i } else { low };
+        // no `From` narrows, and each element follows from the one before
+        out[i + 1] = low as u8;
     }
     out
 }
 
 // How many runs there are.
-pub fn runs(groups: &[u8; 255], firsts: &[u16; 255], lasts: &[u16; 255], n: usize) -> usize
-    requires { n ≤ 255 }
-    ensures { (values : List ℕ) → result ≡ runs (spans_in groups.now firsts.now lasts.now values n) }
+// A sum of tests: a filter's count would be no plainer.
+pub fn runs(segments: &Segments) -> usize
+    requires { segments.now.count ≤ 255 }
+    ensures { (values : List ℕ)
+        → result ≡ runs (spans_in segments.now.groups segments.now.firsts segments.now.lasts values segments.now.count) }
 {
     let mut out: usize = 0;
-    let mut i: usize = 0;
-    while i < n {
-        let begins = is_gap(groups, firsts, lasts, i);
-        let next = counted(begins, out);
-        out = next;
-        i += 1;
+    for i in 0..segments.count {
+        out += usize::from(is_gap(segments, i));
     }
     out
 }
 
 // The totals of a block with segment i put in front of it.
-pub fn with_segment(
-    firsts: &[u16; 255],
-    lasts: &[u16; 255],
-    values: &[u32; 255],
-    i: usize,
-    block: Totals,
-) -> Totals
-    requires { Growing firsts.now lasts.now values.now i (totals_in block) }
-    ensures { totals_in result ≡ add (segment_totals firsts.now lasts.now values.now i) (totals_in block) }
+// `Measurable` and `Growing` are one definition each, of the first segments alone: no type.
+pub fn with_segment(segments: &Segments, i: usize, block: Totals) -> Totals
+    requires { Growing segments.now i (totals_in block) }
+    ensures { totals_in result ≡ add (segment_totals segments.now i) (totals_in block) }
 {
-    let frames = after(lasts[i]) - wide_frame(firsts[i]);
-    Totals::make(frames, values[i] as u64).add(block)
+    let frames = u64::from(segments.lasts[i]) + 1 - u64::from(segments.firsts[i]);
+    Totals::make(frames, u64::from(segments.values[i])).add(block)
 }
 
 // The totals of the block from j up to i.
-pub fn block_totals(
-    firsts: &[u16; 255],
-    lasts: &[u16; 255],
-    values: &[u32; 255],
-    j: usize,
-    i: usize,
-) -> Totals
-    requires { (j ≤ i) × Measurable firsts.now lasts.now values.now i }
-    ensures { totals_in result ≡ totals (block_in firsts.now lasts.now values.now j i) }
+pub fn block_totals(segments: &Segments, j: usize, i: usize) -> Totals
+    requires { (j ≤ i) × Measurable segments.now i }
+    ensures { totals_in result ≡ totals (block_in segments.now j i) }
 {
     let mut block = Totals::EMPTY;
-    let mut at: usize = i;
-    while j < at {
-        at -= 1;
-        let wider = with_segment(firsts, lasts, values, at, block);
-        block = wider;
+    for at in (j..i).rev() {
+        block = with_segment(segments, at, block);
     }
     block
 }

@@ -64,10 +64,10 @@ one_more width was now index v m room is =
     }
 
 -- the arrays of a log with few enough records: their count, and the places for last frames
-pub of_log_lem : (log : List ℕ) (was : Records) → record_count log ≤ most_records → was ≡ record_arrays (records log)
+pub count_and_places : (log : List ℕ) (was : Records) → record_count log ≤ most_records → was ≡ record_arrays (records log)
     → (was.count ≤ 128) × (length was.lasts ≡ 128)
 unfolding record_arrays column most_records
-of_log_lem log was few held =
+count_and_places log was few held =
     let count = length_records log in
     let spans : List (Span ℕ) = records log in (
       rw held (omega arith),

@@ -1,6 +1,5 @@
 // Load with a memory: the records of a log, as the frames that follow them remember them. A frame remembers a record for as many
 // frames as the memory is wide, so that the record's last frame moves, and the sweep over frames needs to know of no width.
-// Assumes nothing.
 #![tactic(auto)]
 
 ghost use Rattle.std.specs.Prelude.{◌≡◌, ◌+◌, ◌-◌, ◌≤◌, min};
@@ -15,17 +14,14 @@ fn later(last: u16, width: u16) -> u16
     requires { 1 ≤ width }
     ensures { result ≡ min (last + (width - 1)) 65535 }
 {
-    let more = width - 1;
-    if last > 65535 - more {
-        return 65535;
-    }
-    last + more
+    last.saturating_add(width - 1)
 }
 
 // Records that have, without a memory, the values that a log's records have with one.
+// The width is a number of the C interface: that it is at least 1 is one inequality, and no type.
 pub fn records(log: &[u8], width: u16) -> Records
-    requires log_bound { record_count log.now ≤ most_records }
-    requires le_width { 1 ≤ width }
+    requires few_records { record_count log.now ≤ most_records }
+    requires some_frames { 1 ≤ width }
     ensures { Remembers width log.now result }
 {
     let mut records = load_log::decode(log);
@@ -33,6 +29,7 @@ pub fn records(log: &[u8], width: u16) -> Records
         return records;
     }
     let count = records.count;
+    // By index: after a part of a field is lent, as `&mut records.lasts[..count]`, the check knows nothing of that field.
     for index in 0..count {
         records.lasts[index] = later(records.lasts[index], width);
     }

@@ -16,6 +16,10 @@ span_in groups firsts lasts values i =
 abbrev pub spans_in : List ℕ → List ℕ → List ℕ → List ℕ → ℕ → List (Span ℕ)
 spans_in groups firsts lasts values count = list_from 0 count (span_in groups firsts lasts values)
 
+-- segment i
+abbrev pub segment_in : Segments → ℕ → Span ℕ
+segment_in s = span_in s.groups s.firsts s.lasts s.values
+
 -- `size` places: one field of each span, then zeros
 unfoldable pub column : ℕ → (Span ℕ → ℕ) → List (Span ℕ) → List ℕ
 column size field spans = map field spans ++ replicate (size - length spans) 0

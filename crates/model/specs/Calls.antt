@@ -1,7 +1,9 @@
 -- What each call answers, and what the places lent to it hold afterwards. For each answer that is an enum, the paper's
 -- number and values for each of its cases.
-use Rattle.std.specs.Prelude.{ℕ, suc, false, cond, List, [], ◌∷◌, ◌++◌, map, ltb, eqb, length, take, drop, replicate}
+use Rattle.std.specs.Prelude as std
+use Rattle.std.specs.Prelude.{◌≡◌, Result, Ok, Err, option_map, ℕ, suc, false, cond, List, [], ◌∷◌, ◌++◌, map, ltb, eqb, length, take, drop, replicate}
 use Rattle.std.proofs.Math.Option.{Option, none, some, get_or}
+use Rattle.model.specs.Common.{option_of}
 use Rattle.model.specs.Spans.{Span}
 use Rattle.model.specs.Log.{record_length, record_bytes, records, without_twins}
 use Rattle.model.specs.Segments.{segments}
@@ -20,22 +22,14 @@ use Rattle.model.specs.declared.Query.{Query}
 use Rattle.model.specs.declared.Rule.{Rule}
 use Rattle.model.specs.declared.Rule.TheVariants as rule
 use Rattle.model.specs.declared.RuledQuery.{RuledQuery}
-use Rattle.model.specs.declared.Asked.{Asked}
-use Rattle.model.specs.declared.Asked.TheVariants as asked
-use Rattle.model.specs.declared.RecordAnswer.{RecordAnswer}
-use Rattle.model.specs.declared.RecordAnswer.TheVariants as record-answer
-use Rattle.model.specs.declared.LogAnswer.{LogAnswer}
-use Rattle.model.specs.declared.LogAnswer.TheVariants as log-answer
-use Rattle.model.specs.declared.SegmentsAnswer.{SegmentsAnswer}
-use Rattle.model.specs.declared.SegmentsAnswer.TheVariants as segments-answer
-use Rattle.model.specs.declared.QueryAnswer.{QueryAnswer}
-use Rattle.model.specs.declared.QueryAnswer.TheVariants as query-answer
-use Rattle.model.specs.declared.ReadAnswer.{ReadAnswer}
-use Rattle.model.specs.declared.ReadAnswer.TheVariants as read_answer
-use Rattle.model.specs.declared.Step.{Step}
-use Rattle.model.specs.declared.Step.TheVariants as step-answer
-use Rattle.model.specs.declared.LookupAnswer.{LookupAnswer}
-use Rattle.model.specs.declared.LookupAnswer.TheVariants as lookup-answer
+use Rattle.model.specs.declared.Question.{Question as Number}
+use Rattle.model.specs.declared.Question.TheVariants as question
+use Rattle.model.specs.declared.Refusal.{Refusal}
+use Rattle.model.specs.declared.Kind.{Kind}
+use Rattle.model.specs.declared.Kind.TheVariants as kind
+use Rattle.model.specs.declared.Written.{Written}
+use Rattle.model.specs.declared.Header as code
+use Rattle.model.specs.declared.Reading.{Reading}
 
 -- the code's structs as spans, and back
 unfoldable pub record_span : Record → Span ℕ
@@ -53,17 +47,66 @@ row_of_span s = record { group = s.group; first = s.first; last = s.last; value 
 unfoldable pub row_span : Row → Span ℕ
 row_span r = record { group = r.group; first = r.first; last = r.last; value = r.value }
 
--- A list of questions alone.
+-- The paper's number of each question.
 
-unfoldable pub asked_case : Asked → Outcome (Unit {0})
-asked_case asked.Passed = accepted tt
-asked_case (asked.Refused r) = refused r.question r.index
+unfoldable pub number : Number → ℕ
+number question.Room = 1
+number question.Kind = 2
+number question.Bound = 3
+number question.LogLength = 4
+number question.RecordCount = 5
+number question.RecordMark = 6
+number question.Group = 7
+number question.FrameOrder = 8
+number question.Load = 9
+number question.EnoughRows = 10
+number question.SlotMark = 11
+number question.SlotKind = 12
+number question.RowCount = 13
+number question.RowMark = 14
+number question.RowFields = 15
+number question.RowOrder = 16
+number question.Rest = 17
+number question.WindowLength = 18
+number question.Scenes = 19
+number question.WindowRows = 20
+number question.Twin = 21
+number question.Coverage = 22
+number question.GreatestLoad = 23
+number question.SlotError = 24
+number question.Width = 25
+number question.PairCount = 26
 
--- The record writer: 0 and nothing more where it has written.
+-- What a call answers: the number of the question that refused it, with its index, or what it gives.
 
-unfoldable pub record_case : RecordAnswer → Outcome (Unit {0})
-record_case record-answer.Written = accepted tt
-record_case (record-answer.Refused r) = refused r.question r.index
+unfoldable pub answer_case : {A B : Type 0} → (A → B) → Result A Refusal → Outcome B
+answer_case given (Ok a) = accepted (given a)
+answer_case given (Err r) = refused (number r.question) r.index
+
+-- The paper's number of each kind. A number is answered as question 2 answers it, with its kind where it has one.
+
+unfoldable pub kind_number : Kind → ℕ
+kind_number kind.Sum = 0
+kind_number kind.Count = 1
+kind_number kind.Least = 2
+kind_number kind.Greatest = 3
+kind_number kind.Mean = 4
+kind_number (kind.Other other) = other.number
+
+abbrev pub IsKind : ℕ → Result Kind Refusal → Type 0
+IsKind n r = answer_case kind_number r ≡ outcome (ask 2 0 (kind_known n) ∷ []) n
+
+-- A list of questions alone, and the record writer, which gives nothing more where it has written.
+
+abbrev pub asked_case : Result (Unit {0}) Refusal → Outcome (Unit {0})
+asked_case = answer_case (λ _. tt)
+
+-- How many: the bytes that the call for logs on file has written, or the segments.
+
+abbrev pub count_case : Result ℕ Refusal → Outcome ℕ
+count_case = answer_case (λ n. n)
+
+-- The record writer.
 
 unfoldable pub write_outcome : Span ℕ → ℕ → Outcome (Unit {0})
 write_outcome r room = outcome (write_questions r room) tt
@@ -73,10 +116,6 @@ written_buffer r buffer = lent (write_questions r (length buffer)) (record_bytes
 
 -- The call for logs on file: the number of bytes written.
 
-unfoldable pub log_case : LogAnswer → Outcome ℕ
-log_case (log-answer.Written n) = accepted n
-log_case (log-answer.Refused r) = refused r.question r.index
-
 unfoldable pub without_twins_outcome : List ℕ → ℕ → Outcome ℕ
 without_twins_outcome log room = outcome (without_twins_questions log room) (length (without_twins log))
 
@@ -85,10 +124,6 @@ without_twins_buffer log buffer =
     lent (without_twins_questions log (length buffer)) (without_twins log ++ drop (length (without_twins log)) buffer) buffer
 
 -- The segment call: the number of segments.
-
-unfoldable pub segments_case : SegmentsAnswer → Outcome ℕ
-segments_case (segments-answer.Found n) = accepted n
-segments_case (segments-answer.Refused r) = refused r.question r.index
 
 unfoldable pub log_segments : ℕ → ℕ → List ℕ → List (Span ℕ)
 log_segments kind width log = segments kind width (records log)
@@ -110,10 +145,11 @@ pub record Counts : Type 0 where
   pub error : ℕ
   pub weighed : ℕ
 
-unfoldable pub query_case : QueryAnswer → Outcome Counts
-query_case (query-answer.Written rows error weighed) =
-    accepted (record { rows = rows; error = error; weighed = weighed })
-query_case (query-answer.Refused r) = refused r.question r.index
+unfoldable pub counts_in : Written → Counts
+counts_in w = record { rows = w.rows; error = w.error; weighed = w.weighed }
+
+abbrev pub query_case : Result Written Refusal → Outcome Counts
+query_case = answer_case counts_in
 
 -- the segments that a query reduces
 abbrev pub query_segments : Query → List ℕ → List (Span ℕ)
@@ -234,10 +270,14 @@ pub record Header : Type 0 where
   pub error : ℕ
   pub rows : ℕ
 
-unfoldable pub read_case : ReadAnswer → Outcome Header
-read_case (read_answer.Slot mark kind error rows) =
-    accepted (record { mark = mark; kind = kind; error = error; rows = rows })
-read_case (read_answer.Refused r) = refused r.question r.index
+unfoldable pub header_in : code.Header → Header
+header_in h = record { mark = h.mark; kind = h.kind; error = h.error; rows = h.rows }
+
+abbrev pub read_case : Result code.Header Refusal → Outcome Header
+read_case = answer_case header_in
+
+abbrev pub reading_case : Result Reading Refusal → Outcome Header
+reading_case = answer_case (λ r. header_in r.header)
 
 -- what the slot's first bytes say
 abbrev pub header_of : List ℕ → Header
@@ -269,10 +309,11 @@ read_list slot list =
 -- The walk by slot and number: a row, or none for 'end'; and the number of the next row, unchanged at the end and in a
 -- refusal.
 
-unfoldable pub step_case : Step → Outcome (Option (Span ℕ))
-step_case (step-answer.Found r) = accepted (some (row_span r))
-step_case step-answer.End = accepted none
-step_case (step-answer.Refused r) = refused r.question r.index
+unfoldable pub row_found : std.Option Row → Option (Span ℕ)
+row_found row = option_of (option_map row_span row)
+
+abbrev pub step_case : Result (std.Option Row) Refusal → Outcome (Option (Span ℕ))
+step_case = answer_case row_found
 
 unfoldable pub step_outcome : List ℕ → ℕ → Outcome (Option (Span ℕ))
 step_outcome slot number =
@@ -284,10 +325,8 @@ step_next slot number =
 
 -- Lookup: a row value, or none for 'uncovered'.
 
-unfoldable pub lookup_case : LookupAnswer → Outcome (Option ℕ)
-lookup_case (lookup-answer.Value v) = accepted (some v)
-lookup_case lookup-answer.Uncovered = accepted none
-lookup_case (lookup-answer.Refused r) = refused r.question r.index
+abbrev pub lookup_case : Result (std.Option ℕ) Refusal → Outcome (Option ℕ)
+lookup_case = answer_case option_of
 
 unfoldable pub lookup_outcome : List ℕ → ℕ → ℕ → Outcome (Option ℕ)
 lookup_outcome slot group frame = outcome (lookup_questions slot group) (value_in (slot_rows slot) group frame)

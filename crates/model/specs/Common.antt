@@ -1,5 +1,6 @@
 -- Sums, lists and numbers in bytes: what the other definitions are written with.
-use Rattle.std.specs.Prelude.{ℕ, zero, suc, ◌+◌, ◌*◌, ◌/◌, ◌%◌, Bool, true, false, ◌&&◌, List, [], ◌∷◌, ◌++◌, get_or}
+use Rattle.std.specs.Prelude as std
+use Rattle.std.specs.Prelude.{Some, None, ℕ, zero, suc, ◌+◌, ◌*◌, ◌/◌, ◌%◌, Bool, true, false, ◌&&◌, List, [], ◌∷◌, ◌++◌, get_or}
 use Rattle.std.proofs.Math.Option.{Option, none, some}
 
 -- h from + h (from + 1) + .., `count` summands
@@ -26,6 +27,11 @@ every test from (suc count) = test from && every test (suc from) count
 unfoldable pub joined : {A B : Type 0} → (A → List B) → List A → List B
 joined h [] = []
 joined h (a ∷ rest) = h a ++ joined h rest
+
+-- an option of the code as one of the definitions
+unfoldable pub option_of : {A : Type 0} → std.Option A → Option A
+option_of None = none
+option_of (Some a) = some a
 
 unfoldable pub is_some : {A : Type 0} → Option A → Bool
 is_some none = false

@@ -2,13 +2,19 @@
 // What they mean stands in specs/, where `Demands` states what the tool owes its user.
 #![tactic(auto)]
 
+ghost use Rattle.std.specs.Prelude.{◌≡◌, ◌<◌, [], eqb};
+ghost use Rattle.model.specs.Log.{greatest_kind};
+ghost use Rattle.model.specs.Calls.{rule_of, number, kind_number, segment_of, IsKind};
+ghost use Rattle.model.specs.Arrays.{segment_in, record_arrays, segment_arrays};
+
+pub mod other;
+
+use other::OtherKind;
+
 // The paper's limits.
 
 // The greatest kind of a query or a slot.
 pub const MOST_KIND: u8 = 4;
-
-// The kind of the greatest load, whose rows hold the greatest value of their block.
-pub const GREATEST_KIND: u8 = 3;
 
 // The greatest group.
 pub const MOST_GROUP: u8 = 7;
@@ -78,6 +84,21 @@ pub struct Records {
     pub count: usize,
 }
 
+impl Records {
+    // No records.
+    pub fn none() -> Records
+        ensures { result ≡ record_arrays [] }
+    {
+        Records {
+            groups: [0; MOST_RECORDS],
+            firsts: [0; MOST_RECORDS],
+            lasts: [0; MOST_RECORDS],
+            loads: [0; MOST_RECORDS],
+            count: 0,
+        }
+    }
+}
+
 // Segments, field by field. Places past the count are zeros.
 #[derive(Clone, Copy)]
 pub struct Segments {
@@ -88,7 +109,36 @@ pub struct Segments {
     pub count: usize,
 }
 
+impl Segments {
+    // No segments.
+    pub fn none() -> Segments
+        ensures { result ≡ segment_arrays [] }
+    {
+        Segments {
+            groups: [0; MOST_SEGMENTS],
+            firsts: [0; MOST_SEGMENTS],
+            lasts: [0; MOST_SEGMENTS],
+            values: [0; MOST_SEGMENTS],
+            count: 0,
+        }
+    }
+
+    // The segment at a place.
+    pub fn at(&self, index: usize) -> Segment
+        requires { index < 255 }
+        ensures { result ≡ segment_of (segment_in self.now index) }
+    {
+        Segment {
+            group: self.groups[index],
+            first: self.firsts[index],
+            last: self.lasts[index],
+            value: self.values[index],
+        }
+    }
+}
+
 // A row of a slot: a block of adjacent segments with its row value.
+// A row and a segment are two structs of the C header.
 #[repr(C)]
 #[derive(Clone, Copy)]
 pub struct Row {
@@ -107,6 +157,7 @@ pub enum Bound {
 
 // A query by a bound. The width is that of its memory: how many of the last frames, the frame itself included, a frame's value is
 // made of.
+// The kind is a byte: a query is put together ahead of question 2.
 #[derive(Clone, Copy)]
 pub struct Query {
     pub kind: u8,
@@ -116,6 +167,7 @@ pub struct Query {
 
 // What an answer's rows are made by: a bound, as above, or windows, which are every `length` frames from frame `start` on, or so
 // many scenes.
+// A bound is no variant of its own here: the paper names a query's enum field with Rows and Share.
 #[derive(Clone, Copy)]
 pub enum Rule {
     Rows(u16),
@@ -124,8 +176,21 @@ pub enum Rule {
     Scenes(usize),
 }
 
+// The rule that a bound is.
+impl From<Bound> for Rule {
+    ghost from_gives = { λ bound rule. rule ≡ rule_of bound };
+
+    fn from(bound: Bound) -> Rule {
+        match bound {
+            Bound::Rows(c) => Rule::Rows(c),
+            Bound::Share(p) => Rule::Share(p),
+        }
+    }
+}
+
 // A query by any rule. The width of its memory is read for bounds alone. The first and last frames of its scenes stand beside the
 // rule, and are read for scenes alone.
+// Its kind is a byte for the same reason, and the frames are two lists since the C interface lends two.
 #[derive(Clone, Copy)]
 pub struct RuledQuery {
     pub kind: u8,
@@ -135,90 +200,157 @@ pub struct RuledQuery {
     pub lasts: [u16; MOST_SCENES],
 }
 
-// The number of the first question that was answered 'no', with the index of the record or row (0 where there is none).
-#[derive(Clone, Copy)]
+// The questions, by the paper's numbers.
+#[derive(Clone, Copy, PartialEq, Eq)]
+pub enum Question {
+    Room = 1,
+    Kind = 2,
+    Bound = 3,
+    LogLength = 4,
+    RecordCount = 5,
+    RecordMark = 6,
+    Group = 7,
+    FrameOrder = 8,
+    Load = 9,
+    EnoughRows = 10,
+    SlotMark = 11,
+    SlotKind = 12,
+    RowCount = 13,
+    RowMark = 14,
+    RowFields = 15,
+    RowOrder = 16,
+    Rest = 17,
+    WindowLength = 18,
+    Scenes = 19,
+    WindowRows = 20,
+    Twin = 21,
+    Coverage = 22,
+    GreatestLoad = 23,
+    SlotError = 24,
+    Width = 25,
+    PairCount = 26,
+}
+
+// The paper's number of a question.
+impl From<Question> for u8 {
+    ghost from_gives = { λ question n. n ≡ number question };
+
+    fn from(question: Question) -> u8 {
+        // this is the conversion itself
+        question as u8
+    }
+}
+
+// The first question that was answered 'no', with the index of the record, row or pair (0 where there is none).
+#[derive(Clone, Copy, PartialEq, Eq)]
 pub struct Refusal {
-    pub question: u8,
+    pub question: Question,
     pub index: usize,
 }
 
-// Whether every question was passed.
+// What is made of the loads of the records that meet a frame: the paper's kinds 0 to 4. Rows of the greatest load hold the greatest
+// value of their block. No query and no slot has another number, but what is said of kinds is said of every number.
 #[derive(Clone, Copy)]
-pub enum Asked {
-    Passed,
-    Refused(Refusal),
+pub enum Kind {
+    Sum,
+    Count,
+    Least,
+    Greatest,
+    Mean,
+    Other(OtherKind),
 }
 
-// The answer of the record writer.
-#[derive(Clone, Copy)]
-pub enum RecordAnswer {
-    Written,
-    Refused(Refusal),
+impl Kind {
+    // The kind of a number.
+    pub fn of(number: u8) -> Kind
+        ensures { kind_number result ≡ number }
+    {
+        match number {
+            0 => Kind::Sum,
+            1 => Kind::Count,
+            2 => Kind::Least,
+            3 => Kind::Greatest,
+            4 => Kind::Mean,
+            _ => Kind::Other(OtherKind { number }),
+        }
+    }
+
+    // Whether rows of this kind hold the greatest value of their block.
+    pub fn is_greatest(self) -> bool
+        ensures { result ≡ eqb (kind_number self) greatest_kind }
+    {
+        matches!(self, Kind::Greatest)
+    }
 }
 
-// The answer of a call that writes a log: how many bytes it has written.
-#[derive(Clone, Copy)]
-pub enum LogAnswer {
-    Written(usize),
-    Refused(Refusal),
+// Question 2.
+impl TryFrom<u8> for Kind {
+    type Error = Refusal;
+
+    ghost try_from_gives = { IsKind };
+
+    fn try_from(kind: u8) -> Answer<Kind> {
+        match Kind::of(kind) {
+            Kind::Other(_) => Err(Refusal {
+                question: Question::Kind,
+                index: 0,
+            }),
+            known => Ok(known),
+        }
+    }
 }
 
-// The answer of the segment call: how many segments there are.
-#[derive(Clone, Copy)]
-pub enum SegmentsAnswer {
-    Found(usize),
-    Refused(Refusal),
+// The paper's number of a kind.
+impl From<Kind> for u8 {
+    ghost from_gives = { λ kind n. n ≡ kind_number kind };
+
+    fn from(kind: Kind) -> u8 {
+        match kind {
+            Kind::Sum => 0,
+            Kind::Count => 1,
+            Kind::Least => 2,
+            Kind::Greatest => 3,
+            Kind::Mean => 4,
+            Kind::Other(other) => other.number,
+        }
+    }
 }
 
-// The answer of a query: the rows written, their error, and the cuts weighed on the way.
+// What a call gives, or the question that refused it. A call that writes what is lent to it, and asks whether that is right, gives
+// nothing more.
+pub type Answer<T> = Result<T, Refusal>;
+
+// What a query has written: how many rows, their error, and the cuts weighed on the way.
 #[derive(Clone, Copy)]
-pub enum QueryAnswer {
-    Written {
-        rows: usize,
-        error: u64,
-        weighed: u64,
-    },
-    Refused(Refusal),
+pub struct Written {
+    pub rows: usize,
+    pub error: u64,
+    pub weighed: u64,
 }
 
-// The reader's answer: what the header of a slot says, the second byte of its mark first.
+// What the header of a slot says, the second byte of its mark first.
+// The kind is the slot's byte, as the C interface gives it.
 #[derive(Clone, Copy)]
-pub enum ReadAnswer {
-    Slot {
-        mark: u8,
-        kind: u8,
-        error: u64,
-        rows: usize,
-    },
-    Refused(Refusal),
+pub struct Header {
+    pub mark: u8,
+    pub kind: u8,
+    pub error: u64,
+    pub rows: usize,
 }
 
-// What the reader gives: its answer, and the rows beside it. Places past the last row are rows of zeros.
+// A slot that is read: its header, and its rows. Places past the last row are rows of zeros.
 #[derive(Clone, Copy)]
 pub struct Reading {
-    pub answer: ReadAnswer,
+    pub header: Header,
     pub rows: [Row; MOST_ROWS],
 }
 
-// One step of a walk over a slot's rows.
-#[derive(Clone, Copy)]
-pub enum Step {
-    Found(Row),
-    End,
-    Refused(Refusal),
-}
+// One step of a walk over a slot's rows: the next row, none at the end.
+pub type Step = Answer<Option<Row>>;
 
 // A step, and the number of the row that comes next.
 #[derive(Clone, Copy)]
 pub struct Walked {
     pub step: Step,
     pub next: usize,
-}
-
-// The answer of a lookup: the value of the row that holds the frame.
-#[derive(Clone, Copy)]
-pub enum LookupAnswer {
-    Value(u32),
-    Uncovered,
-    Refused(Refusal),
 }

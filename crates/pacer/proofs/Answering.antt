@@ -1,16 +1,16 @@
 -- What a query leaves in the slot that is lent, what is said of one by a letter, and what the reader makes of the slot. Assumes nothing.
 use Prim.Native.Nat.{ℕ, ◌≤◌}
-use mathlib.Core.Bool.{true, cond}
-use mathlib.Core.List.{List, ◌∷◌, ◌++◌}
+use Rattle.std.specs.Prelude.{Result, Ok, Err, IfOk}
+use mathlib.Core.List.{List, [], ◌∷◌, ◌++◌}
 use mathlib.Core.Option.{none, some}
-use mathlib.Core.Path.{◌≡◌, refl, sym, ap, ◌∙◌}
-use lib.ListN.{length, drop, replicate}
+use mathlib.Core.Path.{◌≡◌, sym, ap, ◌∙◌}
+use lib.ListN.{length, drop}
 use borrow.Author.Tests.{leb-true}
 use Rattle.model.specs.Split.{Reduced}
 use Rattle.model.specs.Slot.{slot_length, by_bound, slot_bytes}
-use Rattle.model.specs.Questions.{Question, Outcome, refused, accepted, ask, ask_room, outcome, lent, query_questions, ruled_questions, query_by}
-use Rattle.model.specs.Calls.{Counts, counts_of, query_case, answer_of, query_outcome, query_slot, ruled_answer, ruled_mark, ruled_outcome, ruled_slot}
-use Rattle.model.specs.Calls.{bound_of, letter_questions, letter_outcome, letter_slot, read_case, read_outcome, read_rows}
+use Rattle.model.specs.Questions.{Question, ask, ask_room, outcome, lent, slot_questions, query_questions, ruled_questions, query_by}
+use Rattle.model.specs.Calls.{answer_case, answer_of, query_outcome, query_slot, ruled_answer, ruled_mark, ruled_slot}
+use Rattle.model.specs.Calls.{bound_of, letter_questions, letter_outcome, letter_slot, reading_case, read_outcome, read_rows}
 use Rattle.model.specs.Arrays.{rows_in, row_array}
 use Rattle.model.specs.Demands.{BestSlot}
 use Rattle.model.specs.declared.Bound.{Bound}
@@ -18,61 +18,46 @@ use Rattle.model.specs.declared.Query.{Query}
 use Rattle.model.specs.declared.RuledQuery.{RuledQuery}
 use Rattle.model.specs.declared.Row.{Row}
 use Rattle.model.specs.declared.Reading.{Reading}
-use Rattle.theory.proofs.Tests.{true≢false}
+use Rattle.model.specs.declared.Refusal.{Refusal}
 use Rattle.theory.proofs.Refusals.{all_head, all_lent, outcome_accepted, refused_lent}
 use Rattle.theory.proofs.Demands.{best_never_short}
 use Rattle.preparing.specs.declared.Prepared.{Prepared}
-use Rattle.preparing.specs.Prepared.{writes, prepared_slot}
-use Rattle.preparing.proofs.Answering.{rows_held, Prepares}
-use Rattle.pacer.specs.Promises.{BestReading, no_counts}
+use Rattle.preparing.specs.Prepared.{Prepares}
+use Rattle.preparing.proofs.Answering.{rows_held}
+use Rattle.pacer.specs.Promises.{rows_given, BestReading, stored_in, no_counts}
 
 -- ---- the slot that is lent
 
--- what is stored of something prepared
-abbrev pub stored_in : List ℕ → Prepared → List ℕ
-stored_in slot p = cond (writes (query_case p.answer)) (p.bytes ++ drop slot_length slot) slot
-
 -- what was prepared of questions of which the first asks for room
-module _ (rest : List Question) (mark kind : ℕ) (given : Reduced) (slot : List ℕ) (p : Prepared) where
+module _ (rest : List Question) (mark kind : ℕ) (given : Reduced) (slot : List ℕ) where
   abbrev asked : List Question
   asked = ask_room slot_length (length slot) ∷ rest
 
   -- it has room if it is written; stored, it is what the call leaves in the slot
-  abbrev Stores : Type 0
-  Stores =
-      (writes (query_case p.answer) ≡ true → slot_length ≤ length slot)
+  abbrev Stores : Result Prepared Refusal → Type 0
+  Stores p =
+      IfOk p (λ _. slot_length ≤ length slot)
       × (stored_in slot p ≡ lent asked (slot_bytes mark kind given.error given.rows ++ drop slot_length slot) slot)
 
-  stored : Prepares asked mark kind given p → Stores
-  unfolding writes prepared_slot ask_room ask
-  stored (says, bytes) = by (outcome asked (counts_of given)) refl
-    where
-      by : (o : Outcome Counts) → outcome asked (counts_of given) ≡ o → Stores
-      by (refused n i) e = (
-        λ h. absurd (true≢false (sym h ∙ ap writes (says ∙ e))),
-        rw (says ∙ e) (sym (refused_lent asked _ n i _ _ e)),
-      )
-      by (accepted counts) e =
-          let all = (outcome_accepted asked _ counts e).0 in (
-            λ h. leb-true _ _ (all_head _ _ all),
-            rw (says ∙ e, bytes, all_lent asked (slot_bytes mark kind given.error given.rows) (replicate slot_length 0) all)
-                (sym (all_lent asked _ _ all)),
-          )
+  stored : (p : Result Prepared Refusal) → Prepares asked mark kind given p → Stores p
+  unfolding answer_case stored_in ask_room ask
+  stored (Ok p) (says, bytes) =
+      let all = (outcome_accepted asked _ _ (sym says)).0 in
+      (leb-true _ _ (all_head _ _ all), rw bytes (sym (all_lent asked _ _ all)))
+  stored (Err refusal) (says, bytes) = (tt, sym (refused_lent asked _ _ _ _ _ (sym says)))
 
 -- by a bound, and by a rule
-pub stored_by_bound : (q : Query) (log slot : List ℕ) (p : Prepared)
-    → query_case p.answer ≡ query_outcome q log (length slot)
-    → p.bytes ≡ prepared_slot (query_questions q log (length slot)) by_bound q.kind (answer_of q log)
-    → (writes (query_case p.answer) ≡ true → slot_length ≤ length slot) × (stored_in slot p ≡ query_slot q log slot)
-unfolding query_outcome query_questions query_slot
-stored_by_bound q log slot p says bytes = stored _ by_bound q.kind (answer_of q log) slot p (says, bytes)
+pub stored_by_bound : (q : Query) (log slot : List ℕ) (p : Result Prepared Refusal)
+    → Prepares (query_questions q log (length slot)) by_bound q.kind (answer_of q log) p
+    → IfOk p (λ _. slot_length ≤ length slot) × (stored_in slot p ≡ query_slot q log slot)
+unfolding query_questions query_slot
+stored_by_bound q log slot p prepares = stored _ by_bound q.kind (answer_of q log) slot p prepares
 
-pub stored_by_rule : (q : RuledQuery) (log slot : List ℕ) (p : Prepared)
-    → query_case p.answer ≡ ruled_outcome q log (length slot)
-    → p.bytes ≡ prepared_slot (ruled_questions q log (length slot)) (ruled_mark q) q.kind (ruled_answer q log)
-    → (writes (query_case p.answer) ≡ true → slot_length ≤ length slot) × (stored_in slot p ≡ ruled_slot q log slot)
-unfolding ruled_outcome ruled_questions ruled_slot
-stored_by_rule q log slot p says bytes = stored _ (ruled_mark q) q.kind (ruled_answer q log) slot p (says, bytes)
+pub stored_by_rule : (q : RuledQuery) (log slot : List ℕ) (p : Result Prepared Refusal)
+    → Prepares (ruled_questions q log (length slot)) (ruled_mark q) q.kind (ruled_answer q log) p
+    → IfOk p (λ _. slot_length ≤ length slot) × (stored_in slot p ≡ ruled_slot q log slot)
+unfolding ruled_questions ruled_slot
+stored_by_rule q log slot p prepares = stored _ (ruled_mark q) q.kind (ruled_answer q log) slot p prepares
 
 -- ---- a letter for the bound
 
@@ -93,12 +78,19 @@ module _ (kind letter x width : ℕ) (log slot : List ℕ) where
 
 -- ---- what the reader returns
 
+-- the rows of the slot, or rows of zeros
+pub rows_read : (slot : List ℕ) (read : Result Reading Refusal) → reading_case read ≡ read_outcome slot
+    → IfOk read (λ r. r.rows ≡ row_array (read_rows slot)) → rows_given read ≡ row_array (read_rows slot)
+unfolding rows_given answer_case read_outcome read_rows
+rows_read slot (Ok r) header rows = rows
+rows_read slot (Err refusal) header rows = ap row_array (sym (refused_lent (slot_questions slot) _ _ _ _ [] (sym header)))
+
 -- of a slot that holds best rows, the reader returns best rows
-pub best_reading : (q : Query) (log slot : List ℕ) (reading : Reading) → BestSlot q log slot
-    → read_case reading.answer ≡ read_outcome slot → reading.rows ≡ row_array (read_rows slot)
-    → BestReading q log reading
-best_reading q log slot reading b header rows =
-    let is : rows_in reading.rows (length b.rows) ≡ b.rows =
+pub best_reading : (q : Query) (log slot : List ℕ) (read : Result Reading Refusal) → BestSlot q log slot
+    → reading_case read ≡ read_outcome slot → rows_given read ≡ row_array (read_rows slot)
+    → BestReading q log read
+best_reading q log slot read b header rows =
+    let is : rows_in (rows_given read) (length b.rows) ≡ b.rows =
     ap (λ (l : List Row). rows_in l (length b.rows)) (rows ∙ ap row_array b.reads.body) ∙ rows_held b.rows in
     record {
       error = b.error;

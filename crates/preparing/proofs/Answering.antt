@@ -1,24 +1,24 @@
 -- A query's questions, asked in parts: what it answers and what its slot holds where a part is refused, and where the last question
 -- decides. This is said once of any questions; a query by a bound, whose last is answered by a reduction of the log's segments, and one
 -- by windows, whose last is answered by the number of its rows, are its two cases. Assumes nothing.
-use Prim.Native.Nat.{ℕ, ◌≤◌, ◌<◌}
+use Prim.Native.Nat.{ℕ, ◌<◌}
 use mathlib.Core.Bool.{true}
 use mathlib.Core.List.{List, [], ◌∷◌, ◌++◌}
 use mathlib.Core.Option.{Option, none, some}
 use mathlib.Core.Path.{◌≡◌, refl, sym, ap, ◌∙◌}
+use Rattle.std.specs.Prelude.{Result, Ok, Err}
 use native.Mathlib.Nat.{zero-add}
-use native.Mathlib.Omega.{arith}
 use borrow.Author.Tests.{leb-true, le-leb, lt-leb}
 use lib.Dec.{leb}
-use lib.ListN.{length, replicate}
+use lib.ListN.{length}
 use Rattle.model.specs.Common.{is_some}
 use Rattle.model.specs.Spans.{Span, nowhere}
 use Rattle.model.specs.Split.{Reduced, most_rows, count_for, reduced}
 use Rattle.model.specs.Windows.{bound_in}
-use Rattle.model.specs.Slot.{slot_length, by_bound, by_windows}
-use Rattle.model.specs.Questions.{Question, refused, accepted, ask, bound_known, outcome, enough_rows, order_questions, query_questions, ask_width, width_questions}
+use Rattle.model.specs.Slot.{by_bound, by_windows}
+use Rattle.model.specs.Questions.{Question, refused, ask, bound_known, outcome, enough_rows, order_questions, query_questions, ask_width, width_questions}
 use Rattle.model.specs.Questions.{window_rows, rule_question, rows_question, ruled_order, ruled_questions}
-use Rattle.model.specs.Calls.{query_case, log_segments, answer_of, counts_of, ruled_answer, ruled_mark, row_span, row_of_span, query_segments}
+use Rattle.model.specs.Calls.{number, answer_case, counts_in, log_segments, answer_of, counts_of, ruled_answer, ruled_mark, row_span, row_of_span, query_segments}
 use Rattle.model.specs.Arrays.{rows_in, row_array}
 use Rattle.model.specs.Demands.{AllPass}
 use Rattle.model.specs.declared.Bound.{Bound}
@@ -26,16 +26,17 @@ use Rattle.model.specs.declared.Bound.TheVariants.{Rows, Share}
 use Rattle.model.specs.declared.Query.{Query}
 use Rattle.model.specs.declared.RuledQuery.{RuledQuery}
 use Rattle.model.specs.declared.Refusal.{Refusal}
-use Rattle.model.specs.declared.QueryAnswer.TheVariants.{Refused}
+use Rattle.model.specs.declared.Question as code
+use Rattle.model.specs.declared.Question.TheVariants as question
 use Rattle.theory.proofs.Tests.{none≢some, some_inj, cases}
-use Rattle.theory.proofs.Refusals.{all_tail, all_lent, outcome_accepted, outcome_behind, refused_lent, refused_first}
+use Rattle.theory.proofs.Refusals.{all_tail, outcome_behind, refused_first}
 use Rattle.theory.proofs.SlotLaws.{list_from-of}
 use Rattle.load_log.proofs.Columns.{map_at}
 use Rattle.choice.specs.Bounds.{Known}
-use Rattle.windows.specs.Listed.{Lists}
+use Rattle.windows.specs.Listed.{Holds}
 use Rattle.windows.specs.declared.Listing.{Listing}
 use Rattle.preparing.specs.declared.Prepared.{Prepared}
-use Rattle.preparing.specs.Prepared.{early_questions, ahead_of_rows, written, laid_out, listed, prepared_slot}
+use Rattle.preparing.specs.Prepared.{early_questions, ahead_of_rows, with_rows, laid_out, listed, Prepares}
 
 -- ---- the segments of a log in order
 
@@ -75,79 +76,61 @@ unfolding listed
 listed_is rows d e =
     cases (leb (length rows) most_rows) (λ t. some_inj refl (rw t at e)) (λ t. absurd (none≢some refl (rw t at e)))
 
--- of a listing of rows by windows, more than 64 are refused, and others laid out
-pub listed_none : (l : Listing) (rows : List (Span ℕ)) → Lists l rows → 64 < l.count → listed rows ≡ none
+-- of rows by windows, more than 64 are refused, and others laid out
+pub listed_none : (rows : List (Span ℕ)) → 64 < length rows → listed rows ≡ none
 unfolding listed most_rows
-listed_none l rows is more = let counts = is.counts in rw (lt-leb (length rows) 64 (omega arith))
+listed_none rows more = rw (lt-leb (length rows) 64 more)
 
-pub listed_rows : (l : Listing) (rows : List (Span ℕ)) → Lists l rows → l.count ≤ 64 → (kind : ℕ)
-    → written by_windows kind (record { found = true; count = l.count; error = 0; weighed = 0 }) (rows_in l.rows l.count)
-    ≡ laid_out by_windows 20 kind (listed rows)
-unfolding listed most_rows written laid_out
-listed_rows l rows is few kind =
-    let counts = is.counts in
-    let all : l.count ≡ length rows = omega arith in
-    rw (is.holds (omega arith), all, le-leb (length rows) 64 (omega arith))
+pub listed_rows : (l : Listing) (rows : List (Span ℕ)) → Holds l rows → (kind : ℕ)
+    → Ok (with_rows by_windows kind (record { rows = l.count; error = 0; weighed = 0 }) (rows_in l.rows l.count))
+    ≡ laid_out by_windows question.WindowRows kind (listed rows)
+unfolding listed most_rows with_rows laid_out
+listed_rows l rows is kind = rw (is.holds, is.counts, le-leb (length rows) 64 is.few)
 
 -- ---- the questions in parts
-
--- what was prepared is what these questions say of an answer
-abbrev pub Prepares : List Question → ℕ → ℕ → Reduced → Prepared → Type 0
-Prepares questions mark kind given p =
-    (query_case p.answer ≡ outcome questions (counts_of given)) × (p.bytes ≡ prepared_slot questions mark kind given)
 
 -- those ahead of the last, and the last
 module _ (ahead : List Question) (last : Question) (mark kind : ℕ) (given : Reduced) where
   abbrev all : List Question
   all = ahead ++ (last ∷ [])
 
-  refused_slot : (n i : ℕ) → outcome all (counts_of given) ≡ refused n i → replicate slot_length 0 ≡ prepared_slot all mark kind given
-  unfolding prepared_slot
-  refused_slot n i e = sym (refused_lent all _ n i _ _ e)
-
   -- a query refused by one ahead
-  pub refused_early : (refusal : Refusal) → outcome ahead (tt {0}) ≡ refused refusal.question refusal.index
-      → Prepares all mark kind given (record { answer = Refused refusal; bytes = replicate slot_length 0 })
-  unfolding query_case
-  refused_early refusal e =
-      let says = refused_first ahead (last ∷ []) (tt {0}) (counts_of given) refusal.question refusal.index e in
-      (sym says, refused_slot _ _ says)
+  pub refused_early : {A : Type 0} (a : A) (refusal : Refusal) → outcome ahead a ≡ refused (number refusal.question) refusal.index
+      → Prepares all mark kind given (Err refusal)
+  unfolding answer_case
+  refused_early a refusal e =
+      (sym (refused_first ahead (last ∷ []) a (counts_of given) (number refusal.question) refusal.index e), tt)
 
   -- where those are passed, the last decides: an answer where there is one, laid out, is the query's
-  pub decided : AllPass ahead → (number : ℕ) (o : Option Reduced) → last ≡ ask number 0 (is_some o)
-      → ((d : Reduced) → o ≡ some d → given ≡ d) → (p : Prepared) → p ≡ laid_out mark number kind o → Prepares all mark kind given p
-  unfolding outcome ask laid_out query_case counts_of is_some prepared_slot
-  decided passed number none decides is p e =
-      let says : outcome all (counts_of given) ≡ refused number 0 = outcome_behind ahead (last ∷ []) _ passed ∙ rw decides in
-      rw e (sym says, refused_slot number 0 says)
-  decided passed number (some d) decides is p e =
-      let says : outcome all (counts_of given) ≡ accepted (counts_of given) = outcome_behind ahead (last ∷ []) _ passed ∙ rw decides in
-      rw (e, ← is d refl) (sym says, sym (all_lent all _ _ (outcome_accepted all _ _ says).0))
+  pub decided : AllPass ahead → (asked : code.Question) (o : Option Reduced) → last ≡ ask (number asked) 0 (is_some o)
+      → ((d : Reduced) → o ≡ some d → given ≡ d) → (p : Result Prepared Refusal) → p ≡ laid_out mark asked kind o → Prepares all mark kind given p
+  unfolding outcome ask laid_out answer_case counts_in counts_of is_some
+  decided passed asked none decides is p e =
+      rw e (sym (outcome_behind ahead (last ∷ []) _ passed ∙ rw decides), tt)
+  decided passed asked (some d) decides is p e =
+      rw (e, ← is d refl) (sym (outcome_behind ahead (last ∷ []) _ passed ∙ rw decides), refl)
 
 -- by a bound 3 and 25 are asked ahead, and 10 last
 module _ (q : Query) (log : List ℕ) (room : ℕ) where
   abbrev pub ahead_of10 : List Question
   ahead_of10 = ahead_of_rows q.kind (ask 3 0 (bound_known q.bound) ∷ ask_width q.width ∷ []) log room
 
-  pub refused_bound : (refusal : Refusal) → outcome ahead_of10 (tt {0}) ≡ refused refusal.question refusal.index
-      → Prepares (query_questions q log room) by_bound q.kind (answer_of q log) (record { answer = Refused refusal; bytes = replicate slot_length 0 })
+  pub refused_bound : {A : Type 0} (a : A) (refusal : Refusal) → outcome ahead_of10 a ≡ refused (number refusal.question) refusal.index
+      → Prepares (query_questions q log room) by_bound q.kind (answer_of q log) (Err refusal)
   unfolding query_questions order_questions ahead_of_rows early_questions
-  refused_bound = refused_early ahead_of10 (ask 10 0 (enough_rows q log)) by_bound q.kind (answer_of q log)
+  refused_bound a = refused_early ahead_of10 (ask 10 0 (enough_rows q log)) by_bound q.kind (answer_of q log) a
 
-  module _ (early : outcome ahead_of10 (tt {0}) ≡ accepted tt) where
-    passed_bound : AllPass ahead_of10
-    passed_bound = (outcome_accepted _ (tt {0}) (tt {0}) early).0
-
+  module _ (passed_bound : AllPass ahead_of10) where
     -- where those ahead are passed, the query and the log are in order
     pub bound_in_order : AllPass (order_questions q log)
     unfolding order_questions ahead_of_rows early_questions
     bound_in_order = all_tail _ _ passed_bound
 
-    pub bound_laid_out : (p : Prepared) → p ≡ laid_out by_bound 10 q.kind (reduced q.kind q.bound (query_segments q log))
+    pub bound_laid_out : (p : Result Prepared Refusal) → p ≡ laid_out by_bound question.EnoughRows q.kind (reduced q.kind q.bound (query_segments q log))
         → Prepares (query_questions q log room) by_bound q.kind (answer_of q log) p
-    unfolding query_questions order_questions ahead_of_rows early_questions enough_rows log_segments answer_of
+    unfolding query_questions order_questions ahead_of_rows early_questions enough_rows log_segments answer_of number
     bound_laid_out =
-        decided ahead_of10 (ask 10 0 (enough_rows q log)) by_bound q.kind (answer_of q log) passed_bound 10
+        decided ahead_of10 (ask 10 0 (enough_rows q log)) by_bound q.kind (answer_of q log) passed_bound question.EnoughRows
         (reduced q.kind q.bound (query_segments q log))
         (ap (ask 10 0) (reduced_some q.kind q.bound (query_segments q log)))
         (λ d is. rw is)
@@ -162,25 +145,22 @@ module _ (q : RuledQuery) (log : List ℕ) (room : ℕ) (windowed : bound_in q.r
   unfolding ruled_questions ruled_order width_questions ahead_of_rows early_questions
   all_by_windows = rw (windowed, width_questions)
 
-  pub refused_windows : (refusal : Refusal) → outcome ahead_of20 (tt {0}) ≡ refused refusal.question refusal.index
-      → Prepares (ruled_questions q log room) (ruled_mark q) q.kind (ruled_answer q log) (record { answer = Refused refusal; bytes = replicate slot_length 0 })
-  refused_windows refusal e =
-      rw all_by_windows (refused_early ahead_of20 (rows_question q log) (ruled_mark q) q.kind (ruled_answer q log) refusal e)
+  pub refused_windows : {A : Type 0} (a : A) (refusal : Refusal) → outcome ahead_of20 a ≡ refused (number refusal.question) refusal.index
+      → Prepares (ruled_questions q log room) (ruled_mark q) q.kind (ruled_answer q log) (Err refusal)
+  refused_windows a refusal e =
+      rw all_by_windows (refused_early ahead_of20 (rows_question q log) (ruled_mark q) q.kind (ruled_answer q log) a refusal e)
 
-  module _ (early : outcome ahead_of20 (tt {0}) ≡ accepted tt) where
-    passed_windows : AllPass ahead_of20
-    passed_windows = (outcome_accepted _ (tt {0}) (tt {0}) early).0
-
+  module _ (passed_windows : AllPass ahead_of20) where
     pub windows_in_order : AllPass (ruled_order q log)
     unfolding ruled_order width_questions ahead_of_rows early_questions
     windows_in_order = rw (windowed, width_questions) (all_tail _ _ passed_windows)
 
-    pub windows_laid_out : (p : Prepared) → p ≡ laid_out by_windows 20 q.kind (listed (window_rows q log))
+    pub windows_laid_out : (p : Result Prepared Refusal) → p ≡ laid_out by_windows question.WindowRows q.kind (listed (window_rows q log))
         → Prepares (ruled_questions q log room) (ruled_mark q) q.kind (ruled_answer q log) p
-    unfolding rows_question ruled_mark ruled_answer
+    unfolding rows_question ruled_mark ruled_answer number
     windows_laid_out p e =
         rw all_by_windows
-        (decided ahead_of20 (rows_question q log) (ruled_mark q) q.kind (ruled_answer q log) passed_windows 20 (listed (window_rows q log))
+        (decided ahead_of20 (rows_question q log) (ruled_mark q) q.kind (ruled_answer q log) passed_windows question.WindowRows (listed (window_rows q log))
         (rw (windowed, rows_question) (ap (ask 20 0) (listed_some (window_rows q log))))
         (λ d is. rw (windowed, ruled_answer) (listed_is (window_rows q log) d is)) p
         (e ∙ rw (windowed, ruled_mark)))

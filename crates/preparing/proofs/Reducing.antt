@@ -1,12 +1,13 @@
 -- From the reduction of segments in arrays to the definition's: its rows are those between its cuts. Assumes nothing.
 use Prim.Native.Nat.{ℕ, ◌-◌, ◌≤◌, ◌<◌}
-use mathlib.Core.Bool.{true, false}
+use Rattle.std.specs.Prelude as std
+use Rattle.std.specs.Prelude.{Some, None, Ok}
 use mathlib.Core.List.{List, [], ◌∷◌, ◌++◌}
 use mathlib.Core.Option.{Option, none, some}
 use mathlib.Core.Path.{◌≡◌, refl, sym, ap, ◌∙◌}
 use native.Mathlib.Omega.{arith}
 use lib.ListN.{length, drop}
-use Rattle.model.specs.Common.{list_from}
+use Rattle.model.specs.Common.{option_of, list_from}
 use Rattle.model.specs.Spans.{Span}
 use Rattle.model.specs.Blocks.{segment_at, block, row_value, row_of}
 use Rattle.model.specs.Reductions.{IsReduction}
@@ -14,7 +15,8 @@ use Rattle.model.specs.Room.{Measured}
 use Rattle.model.specs.Slot.{by_bound}
 use Rattle.model.specs.Split.{Reduced, least, cuts_of, rows_of, chosen, error_of, gap_below, runs, least_of, count_for, reduced_to, reduced}
 use Rattle.model.specs.declared.Bound.{Bound}
-use Rattle.theory.proofs.Tests.{true≢false}
+use Rattle.model.specs.declared.Question.TheVariants as question
+use Rattle.theory.proofs.Tests.{none≢some, some_inj}
 use Rattle.theory.proofs.Table.{cuts_of-length}
 use Rattle.theory.proofs.Blocks.{rows_length}
 use Rattle.theory.proofs.Answer.{reduced_to_lem}
@@ -27,7 +29,7 @@ use Rattle.split.specs.Ready.{Reduces}
 use Rattle.split.proofs.Measuring.{costs_of}
 use Rattle.model.specs.Arrays.{rows_in, row_array}
 use Rattle.model.specs.declared.Row.{Row}
-use Rattle.preparing.specs.Prepared.{written, laid_out}
+use Rattle.preparing.specs.Prepared.{with_rows, laid_out}
 use Rattle.preparing.proofs.Answering.{rows_held}
 use Rattle.rows.specs.Between.{Ordered, rows_between}
 use Rattle.rows.proofs.Cut.{ordered, rows_between_lem}
@@ -57,7 +59,7 @@ pub record Answers (kind : ℕ) (h : ℕ → Span ℕ) (n : ℕ) (bound : Bound)
   pub order : Ordered cuts r.count n
   pub rows : rows_between kind h cuts r.count n ≡ d.rows
 
-module _ (kind : ℕ) (h : ℕ → Span ℕ) (n : ℕ) (ok : Measured (list_from 0 n h)) {bound : Bound} {r : Reduction} {before cuts : List ℕ} (g : Reduces (error_of kind (list_from 0 n h)) (gap_below (list_from 0 n h)) n (runs (list_from 0 n h)) bound r before cuts) where
+module _ (kind : ℕ) (h : ℕ → Span ℕ) (n : ℕ) (ok : Measured (list_from 0 n h)) {bound : Bound} {found : std.Option Reduction} {before cuts : List ℕ} (g : Reduces (error_of kind (list_from 0 n h)) (gap_below (list_from 0 n h)) n (runs (list_from 0 n h)) bound found before cuts) where
   abbrev segs : List (Span ℕ)
   segs = list_from 0 n h
 
@@ -69,19 +71,18 @@ module _ (kind : ℕ) (h : ℕ → Span ℕ) (n : ℕ) (ok : Measured (list_from
   same_choice = ap (λ (x : ℕ). chosen bound (λ k. least (error_of kind segs) (gap_below segs) k x) x (runs segs)) (sym size)
 
   -- the reduction by the number of rows that answers
-  reduction_none : count_for kind bound segs ≡ none → r.found ≡ false
+  reduction_none : count_for kind bound segs ≡ none → found ≡ None
   unfolding reduction_for
   reduction_none e = rw (g.answer, same_choice ∙ e, reduction_for)
 
-  pub unanswered : r.found ≡ false → reduced kind bound segs ≡ none
-  unfolding reduced reduction_for
+  pub unanswered : found ≡ None → reduced kind bound segs ≡ none
+  unfolding reduced reduction_for option_of
   unanswered f = by (count_for kind bound segs) refl
     where
       by : (o : Option ℕ) → count_for kind bound segs ≡ o → reduced kind bound segs ≡ none
       by none e = rw (e, reduced)
-      by (some k) e = absurd (true≢false (rw (g.answer, same_choice ∙ e, reduction_for) at f))
+      by (some k) e = absurd (none≢some (ap option_of f) (ap option_of (rw (same_choice ∙ e, reduction_for) at g.answer)))
 
-  -- k rows answer
   module _ (k : ℕ) (e : count_for kind bound segs ≡ some k) where
     chosen_is : chosen bound (by_rows (error_of kind segs) (gap_below segs) n) n (runs segs) ≡ some k
     chosen_is = same_choice ∙ e
@@ -108,10 +109,10 @@ module _ (kind : ℕ) (h : ℕ → Span ℕ) (n : ℕ) (ok : Measured (list_from
         ((rw count_is at (rows_between_lem kind h n cuts_of_lem (drop k before)))
         ∙ rows_cong kind h (segment_at segs) (gap_below segs) n (λ x lt. sym (segment_at_lem h n x lt)) n cuts_of_lem (omega arith) is_cuts)
 
-    answers_by : Answers kind h n bound r cuts
-    unfolding reduction_for reduced_to least_of
-    answers_by =
-        let here = rw (chosen_is, reduction_for) at g.answer in
+    answers_by : (r : Reduction) → found ≡ Some r → Answers kind h n bound r cuts
+    unfolding reduction_for reduced_to least_of option_of
+    answers_by r f =
+        let here = some_inj (ap option_of f) (ap option_of (rw (chosen_is, reduction_for) at g.answer)) in
         rw here (record {
           d = reduced_to kind bound segs k;
           is = reduced_to_lem kind segs bound k e;
@@ -123,16 +124,17 @@ module _ (kind : ℕ) (h : ℕ → Span ℕ) (n : ℕ) (ok : Measured (list_from
           rows = rows_are ∙ rw size;
         })
 
-  pub answers : r.found ≡ true → Answers kind h n bound r cuts
-  answers f = by (count_for kind bound segs) refl
+  pub answers : (r : Reduction) → found ≡ Some r → Answers kind h n bound r cuts
+  unfolding option_of
+  answers r f = by (count_for kind bound segs) refl
     where
       by : (o : Option ℕ) → count_for kind bound segs ≡ o → Answers kind h n bound r cuts
-      by none e = absurd (true≢false (sym f ∙ reduction_none e))
-      by (some k) e = answers_by k e
+      by none e = absurd (none≢some (ap option_of (reduction_none e)) (ap option_of f))
+      by (some k) e = answers_by k e r f
 
 -- the rows between the cuts, laid out, are the definition's
 pub laid_rows : (kind : ℕ) (h : ℕ → Span ℕ) (n : ℕ) {bound : Bound} {r : Reduction} {cuts : List ℕ} → Answers kind h n bound r cuts → (rows : List Row)
-    → rows ≡ row_array (rows_between kind h cuts r.count n) → written by_bound kind r (rows_in rows r.count) ≡ laid_out by_bound 10 kind (reduced kind bound (list_from 0 n h))
-unfolding written laid_out
+    → rows ≡ row_array (rows_between kind h cuts r.count n) → Ok (with_rows by_bound kind (record { rows = r.count; error = r.error; weighed = r.weighed }) (rows_in rows r.count)) ≡ laid_out by_bound question.EnoughRows kind (reduced kind bound (list_from 0 n h))
+unfolding with_rows laid_out
 laid_rows kind h n a rows made =
     rw (made, a.rows, a.count, rows_held a.d.rows, a.is, a.error, a.weighed)

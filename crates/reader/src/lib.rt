@@ -2,76 +2,58 @@
 // hold any bytes, of any length.
 #![tactic(auto)]
 
-ghost use Rattle.std.specs.Prelude.{◌≡◌, cond, ◌≤◌, ltb, length};
-ghost use Rattle.std.proofs.Math.Option.{some, none};
-ghost use Rattle.model.specs.Common.{list_from};
+ghost use Rattle.std.specs.Prelude.{◌≡◌, IfOk};
+ghost use Rattle.model.specs.Common.{list_from, option_of};
 ghost use Rattle.model.specs.Spans.{holds};
 ghost use Rattle.model.specs.Slot.{slot_row, value_in};
-ghost use Rattle.model.specs.Questions.{accepted};
-ghost use Rattle.model.specs.Calls.{row_span, read_case, read_outcome, read_rows};
+ghost use Rattle.model.specs.Calls.{row_span, header_in, header_of, read_case, reading_case, read_outcome, read_rows};
 ghost use Rattle.model.specs.Calls.{step_case, step_outcome, step_next, lookup_case, lookup_outcome};
 ghost use Rattle.model.specs.Arrays.{row_array};
+ghost use Rattle.slot.specs.Places.{HasHeader, HasRows};
 
-use common::{eight, no_rows, wide};
-use model::{
-    Asked, LookupAnswer, MOST_GROUP, MOST_ROWS, ReadAnswer, Reading, Refusal, Row, Step, Walked,
-};
+use common::{eight, no, no_rows};
+use model::{Answer, Header, MOST_GROUP, MOST_ROWS, Question, Reading, Row, Walked};
 
 // Reads a slot's header: the mark's second byte, kind, error and row count.
-pub fn header(slot: &[u8]) -> ReadAnswer
+pub fn header(slot: &[u8]) -> Answer<Header>
     ensures { read_case result ≡ read_outcome slot.now }
 {
-    let asked = slot::ask(slot);
-    match asked {
-        Asked::Refused(r) => ReadAnswer::Refused(r),
-        Asked::Passed => ReadAnswer::Slot {
-            mark: slot[1],
-            kind: slot[2],
-            error: eight(slot, 4),
-            rows: wide(slot[3]),
-        },
-    }
+    slot::ask(slot)?;
+    Ok(header_of(slot))
 }
 
 // Reads a slot: what its header says, and its rows.
-pub fn read(slot: &[u8]) -> Reading
-    ensures { (read_case result.answer ≡ read_outcome slot.now) × (result.rows ≡ row_array (read_rows slot.now)) }
+pub fn read(slot: &[u8]) -> Answer<Reading>
+    ensures says { reading_case result ≡ read_outcome slot.now }
+    ensures rows { IfOk result (λ r. r.rows ≡ row_array (read_rows slot.now)) }
 {
-    let asked = slot::ask(slot);
-    match asked {
-        Asked::Refused(r) => {
-            let rows = no_rows();
-            Reading {
-                answer: ReadAnswer::Refused(r),
-                rows,
-            }
-        }
-        Asked::Passed => {
-            let count = wide(slot[3]);
-            let rows = read_rows(slot, count);
-            Reading {
-                answer: ReadAnswer::Slot {
-                    mark: slot[1],
-                    kind: slot[2],
-                    error: eight(slot, 4),
-                    rows: count,
-                },
-                rows,
-            }
-        }
+    slot::ask(slot)?;
+    let header = header_of(slot);
+    let rows = read_rows(slot, header.rows);
+    Ok(Reading { header, rows })
+}
+
+// What the header of a slot says.
+fn header_of(slot: &[u8]) -> Header
+    requires { HasHeader slot.now }
+    ensures { header_in result ≡ header_of slot.now }
+{
+    Header {
+        mark: slot[1],
+        kind: slot[2],
+        error: eight(slot, 4),
+        rows: slot::count(slot),
     }
 }
 
 // The first `count` rows of a slot, then rows of zeros.
 fn read_rows(slot: &[u8], count: usize) -> [Row; MOST_ROWS]
-    requires { (768 ≤ length slot.now) × (count ≤ 64) }
+    requires { HasRows slot.now count }
     ensures { result ≡ row_array (list_from 0 count (slot_row slot.now)) }
 {
     let mut rows = no_rows();
-    let mut i: usize = 0;
-    while i < count {
+    for i in 0..count {
         rows[i] = slot::row(slot, i);
-        i += 1;
     }
     rows
 }
@@ -80,21 +62,20 @@ fn read_rows(slot: &[u8], count: usize) -> [Row; MOST_ROWS]
 pub fn row_at(slot: &[u8], number: usize) -> Walked
     ensures { (step_case result.step ≡ step_outcome slot.now number) × (result.next ≡ step_next slot.now number) }
 {
-    let asked = slot::ask(slot);
-    match asked {
-        Asked::Refused(r) => Walked {
-            step: Step::Refused(r),
+    match slot::ask(slot) {
+        Err(refusal) => Walked {
+            step: Err(refusal),
             next: number,
         },
-        Asked::Passed => {
-            if number < wide(slot[3]) {
+        Ok(()) => {
+            if number < slot::count(slot) {
                 Walked {
-                    step: Step::Found(slot::row(slot, number)),
+                    step: Ok(Some(slot::row(slot, number))),
                     next: number + 1,
                 }
             } else {
                 Walked {
-                    step: Step::End,
+                    step: Ok(None),
                     next: number,
                 }
             }
@@ -103,52 +84,30 @@ pub fn row_at(slot: &[u8], number: usize) -> Walked
 }
 
 // The value of the row of a group that contains a frame.
-pub fn lookup(slot: &[u8], group: u8, frame: u16) -> LookupAnswer
+pub fn lookup(slot: &[u8], group: u8, frame: u16) -> Answer<Option<u32>>
     ensures { lookup_case result ≡ lookup_outcome slot.now group frame }
 {
-    let asked = slot::ask(slot);
-    match asked {
-        Asked::Refused(r) => LookupAnswer::Refused(r),
-        Asked::Passed => {
-            if group <= MOST_GROUP {
-                find(slot, wide(slot[3]), group, frame)
-            } else {
-                LookupAnswer::Refused(Refusal {
-                    question: 7,
-                    index: 0,
-                })
-            }
-        }
+    slot::ask(slot)?;
+    if group > MOST_GROUP {
+        return no(Question::Group, 0);
     }
+    Ok(find(slot, slot::count(slot), group, frame))
 }
 
-// The number of the first row, of the first `count` of a slot, that is of a group and contains a frame; `count` where none does.
-fn seek(slot: &[u8], count: usize, group: u8, frame: u16) -> usize
-    requires { (768 ≤ length slot.now) × (count ≤ 64) }
-    ensures { (result ≤ count) × (value_in (list_from 0 count (slot_row slot.now)) group frame ≡ cond (ltb result count) (some (slot_row slot.now result).value) none) }
+// The value of the first row, of the first `count` of a slot, that is of a group and contains a frame.
+// By place, and no slice of rows: rows are bytes here.
+// One row after the other, as the slot's questions are asked of each; `lookups` halves, for many pairs.
+fn find(slot: &[u8], count: usize, group: u8, frame: u16) -> Option<u32>
+    requires { HasRows slot.now count }
+    ensures { option_of result ≡ value_in (list_from 0 count (slot_row slot.now)) group frame }
 {
-    let mut next: usize = 0;
-    while next < count {
-        if holds(slot::row(slot, next), group, frame) {
-            return next;
+    for next in 0..count {
+        let row = slot::row(slot, next);
+        if holds(row, group, frame) {
+            return Some(row.value);
         }
-        next += 1;
     }
-    next
-}
-
-// The value of that row.
-fn find(slot: &[u8], count: usize, group: u8, frame: u16) -> LookupAnswer
-    requires { (768 ≤ length slot.now) × (count ≤ 64) }
-    ensures { lookup_case result ≡ accepted (value_in (list_from 0 count (slot_row slot.now)) group frame) }
-{
-    let at = seek(slot, count, group, frame);
-    if at < count {
-        let row = slot::row(slot, at);
-        LookupAnswer::Value(row.value)
-    } else {
-        LookupAnswer::Uncovered
-    }
+    None
 }
 
 // Whether a row is of a group and contains a frame.

@@ -2,17 +2,29 @@
 #![tactic(auto)]
 
 ghost use Rattle.std.specs.Prelude.{◌≡◌, ◌≤◌, length, take};
+ghost use Rattle.model.specs.Calls.{number};
 ghost use Rattle.text.specs.Text.{refusal_text};
+ghost use Rattle.pacer.specs.Promises.{rows_given};
 ghost use Rattle.report.specs.Report.{query_text, profile_text};
 
-use common::{no_slot, two};
-use model::Refusal;
+use common::{no_rows, no_slot, two};
+use model::{Answer, MOST_ROWS, Question, Reading, Refusal, Row};
 
 // The text of a refusal ahead of all questions.
-fn refuse(question: u8, out: &mut [u8; 4096]) -> usize
-    ensures { (result ≤ length out.new) × (take result out.new ≡ refusal_text question 0) }
+fn refuse(question: Question, out: &mut [u8; 4096]) -> usize
+    ensures { (result ≤ length out.new) × (take result out.new ≡ refusal_text (number question) 0) }
 {
     text::put_refusal(out, 0, Refusal { question, index: 0 })
+}
+
+// The rows that were read, or rows of zeros.
+fn rows_of(read: Answer<Reading>) -> [Row; MOST_ROWS]
+    ensures { result ≡ rows_given read }
+{
+    match read {
+        Ok(reading) => reading.rows,
+        Err(_) => no_rows(),
+    }
 }
 
 // The text of the answer to a query, whose rows are read back from its slot.
@@ -21,8 +33,8 @@ fn answer(kind: u8, letter: u8, bound: u16, log: &[u8], out: &mut [u8; 4096]) ->
 {
     let mut slot = no_slot();
     let answer = pacer::query_by_letter(kind, letter, bound, 1, log, &mut slot);
-    let reading = pacer::read(&slot);
-    let rows = reading.rows;
+    let read = pacer::read(&slot);
+    let rows = rows_of(read);
     text::put_answer(out, answer, rows)
 }
 
@@ -32,10 +44,10 @@ pub fn report(input: &[u8], out: &mut [u8; 4096]) -> usize
     ensures prints { take result out.new ≡ profile_text input.now }
 {
     if input.len() > 65536 {
-        return refuse(5, out);
+        return refuse(Question::RecordCount, out);
     }
     if input.len() < 4 {
-        return refuse(2, out);
+        return refuse(Question::Kind, out);
     }
     let log = &input[4..];
     answer(input[0], input[1], two(input, 2), log, out)

@@ -2,38 +2,28 @@
 #![tactic(auto)]
 
 ghost use Rattle.std.specs.Prelude.{◌≡◌, ◌<◌, ◌≤◌};
-ghost use Rattle.model.specs.Calls.{row_of_span};
+ghost use Rattle.model.specs.Calls.{kind_number, row_of_span};
 ghost use Rattle.model.specs.Blocks.{row_value, row_of};
-ghost use Rattle.model.specs.Arrays.{span_in, row_array};
+ghost use Rattle.model.specs.Arrays.{segment_in, row_array};
 ghost use Rattle.measures.specs.Held.{Measurable};
 ghost use Rattle.rows.specs.Between.{end_before, Ordered, rows_between};
 
-use common::{no_rows, wide};
-use model::Row;
+use common::no_rows;
+use model::{Kind, Row, Segments};
 
 // The row of the segments from j up to i.
-fn row(
-    groups: &[u8; 255],
-    firsts: &[u16; 255],
-    lasts: &[u16; 255],
-    values: &[u32; 255],
-    j: usize,
-    i: usize,
-    kind: u8,
-) -> Row
-    requires { (j < i) × Measurable firsts.now lasts.now values.now i }
-    ensures { result ≡ row_of_span (row_of (row_value kind) (span_in groups.now firsts.now lasts.now values.now) j i) }
+fn row(segments: &Segments, j: usize, i: usize, kind: Kind) -> Row
+    requires { (j < i) × Measurable segments.now i }
+    ensures { result ≡ row_of_span (row_of (row_value (kind_number kind)) (segment_in segments.now) j i) }
 {
     let last_segment = i - 1;
-    let block = measures::block_totals(firsts, lasts, values, j, i);
-    let group = groups[j];
-    let first = firsts[j];
-    let last = lasts[last_segment];
+    let block = measures::block_totals(segments, j, i);
+    // no `From` narrows; a row value is at most 128,000
     let value = block.row_value(kind) as u32;
     Row {
-        group,
-        first,
-        last,
+        group: segments.groups[j],
+        first: segments.firsts[j],
+        last: segments.lasts[last_segment],
         value,
     }
 }
@@ -43,32 +33,26 @@ fn end(cuts: &[u8; 64], next: usize, count: usize, n: usize) -> usize
     requires { count ≤ 64 }
     ensures { result ≡ end_before cuts.now count n next }
 {
-    if next < count { wide(cuts[next]) } else { n }
+    if next < count {
+        usize::from(cuts[next])
+    } else {
+        n
+    }
 }
 
-// The rows of the blocks that begin with the first `count` cuts, of the first n segments.
-pub fn between(
-    cuts: &[u8; 64],
-    groups: &[u8; 255],
-    firsts: &[u16; 255],
-    lasts: &[u16; 255],
-    values: &[u32; 255],
-    count: usize,
-    n: usize,
-    kind: u8,
-) -> [Row; 64]
-    requires count_bound { count ≤ 64 }
-    requires ordered { Ordered cuts.now count n }
-    requires measurable { Measurable firsts.now lasts.now values.now n }
-    ensures { result ≡ row_array (rows_between kind (span_in groups.now firsts.now lasts.now values.now) cuts.now count n) }
+// The rows of the blocks that begin with the first `count` cuts.
+// The cuts are the first of 64 places: the clause speaks of cuts and a count.
+pub fn between(cuts: &[u8; 64], count: usize, segments: &Segments, kind: Kind) -> [Row; 64]
+    requires few_rows { count ≤ 64 }
+    requires ordered { Ordered cuts.now count segments.now.count }
+    requires measurable { Measurable segments.now segments.now.count }
+    ensures { result ≡ row_array (rows_between (kind_number kind) (segment_in segments.now) cuts.now count segments.now.count) }
 {
     let mut made = no_rows();
-    let mut next: usize = 0;
-    while next < count {
-        let from = wide(cuts[next]);
-        let to = end(cuts, next + 1, count, n);
-        made[next] = row(groups, firsts, lasts, values, from, to, kind);
-        next += 1;
+    for next in 0..count {
+        let from = usize::from(cuts[next]);
+        let to = end(cuts, next + 1, count, segments.count);
+        made[next] = row(segments, from, to, kind);
     }
     made
 }

@@ -2,16 +2,15 @@
 // its own question. A bound is asked 3, whether or not it came as a rule, and with it the width 25, which windows do not read.
 #![tactic(auto)]
 
-ghost use Rattle.std.specs.Prelude.{◌≡◌, [], ◌∷◌, ◌++◌, true, ◌&&◌, cond, ◌<◌, leb, ltb, eqb, take};
-ghost use Rattle.std.proofs.Math.Option.{none, some};
-ghost use Rattle.model.specs.Common.{is_some};
-ghost use Rattle.model.specs.Spans.{frame_count};
+ghost use Rattle.std.specs.Prelude.{◌≡◌, [], ◌∷◌, ◌++◌, cond, ◌<◌, eqb, take};
+ghost use Rattle.std.proofs.Math.Option.{none};
+ghost use Rattle.model.specs.Common.{option_of};
 ghost use Rattle.model.specs.Windows.{bound_in};
 ghost use Rattle.model.specs.Questions.{ask, outcome, bound_known, ask_width, scene_known, scenes_known, rule_question};
-ghost use Rattle.model.specs.Calls.{asked_case, no_frames, rule_of, bounded_query, beat_query, scene_query};
+ghost use Rattle.model.specs.Calls.{asked_case, number, no_frames, bounded_query, beat_query, scene_query};
 
 use common::{is_width, no};
-use model::{Asked, Bound, MOST_SCENES, MOST_SHARE, Query, Rule, RuledQuery};
+use model::{Answer, Bound, MOST_ROWS, MOST_SCENES, MOST_SHARE, Query, Question, Rule, RuledQuery};
 
 // The frames of no scene.
 fn no_frames() -> [u16; MOST_SCENES]
@@ -20,24 +19,13 @@ fn no_frames() -> [u16; MOST_SCENES]
     [0u16; MOST_SCENES]
 }
 
-// The rule that a bound is.
-fn rule_of(bound: Bound) -> Rule
-    ensures { result ≡ rule_of bound }
-{
-    match bound {
-        Bound::Rows(c) => Rule::Rows(c),
-        Bound::Share(p) => Rule::Share(p),
-    }
-}
-
 // A query with a bound.
 pub fn bounded(query: Query) -> RuledQuery
     ensures { result ≡ bounded_query query }
 {
-    let bound = query.bound;
     RuledQuery {
         kind: query.kind,
-        rule: rule_of(bound),
+        rule: query.bound.into(),
         width: query.width,
         firsts: no_frames(),
         lasts: no_frames(),
@@ -61,19 +49,14 @@ pub fn beats(kind: u8, length: u16, start: u16) -> RuledQuery
 fn frames_of(list: &[u16]) -> [u16; MOST_SCENES]
     ensures { result ≡ take 16 (list.now ++ no_frames) }
 {
+    let count = list.len().min(MOST_SCENES);
     let mut frames = no_frames();
-    let mut i: usize = 0;
-    while i < list.len() {
-        if i == MOST_SCENES {
-            return frames;
-        }
-        frames[i] = list[i];
-        i += 1;
-    }
+    frames[..count].copy_from_slice(&list[..count]);
     frames
 }
 
 // How many scenes two lists of frames give: none where they are not as many.
+// A function, since what it promises of unequal lists has an edit of its own.
 fn count_of(firsts: usize, lasts: usize) -> usize
     ensures { result ≡ cond (eqb firsts lasts) firsts 0 }
 {
@@ -94,62 +77,35 @@ pub fn scenes(kind: u8, firsts: &[u16], lasts: &[u16]) -> RuledQuery
     }
 }
 
-// Whether a scene's first frame is no later than its last.
-fn are_ordered(first: u16, last: u16) -> bool
-    ensures { result ≡ leb first last && ltb last frame_count }
-{
-    first <= last
-}
-
 // Whether scene i is from a first frame to a last one, wholly after the scene before.
-fn scene_is_known<'a>(
-    firsts: &'a [u16; MOST_SCENES],
-    lasts: &'a [u16; MOST_SCENES],
-    i: usize,
-) -> bool
+fn scene_is_known(query: &RuledQuery, i: usize) -> bool
     requires { i < 16 }
-    ensures { result ≡ scene_known firsts.now lasts.now i }
+    ensures { result ≡ scene_known query.now.firsts query.now.lasts i }
 {
-    let first = firsts[i];
-    let ordered = are_ordered(first, lasts[i]);
+    let first = query.firsts[i];
+    let ordered = first <= query.lasts[i];
     if i == 0 {
         return ordered;
     }
-    let before = lasts[i - 1];
+    let before = query.lasts[i - 1];
     ordered & (before < first)
 }
 
 // Whether there are 1 to 16 scenes, each as it must be.
-fn scenes_are_known<'a>(
-    firsts: &'a [u16; MOST_SCENES],
-    lasts: &'a [u16; MOST_SCENES],
-    count: usize,
-) -> bool
-    ensures { result ≡ scenes_known firsts.now lasts.now count }
+fn scenes_are_known(query: &RuledQuery, count: usize) -> bool
+    ensures { result ≡ scenes_known query.now.firsts query.now.lasts count }
 {
-    if count == 0 {
-        return false;
+    match count {
+        1..=MOST_SCENES => (0..count).all(|i| scene_is_known(query, i)),
+        _ => false,
     }
-    if count > MOST_SCENES {
-        return false;
-    }
-    let mut known = true;
-    let mut i: usize = 0;
-    while i < count {
-        known = known & scene_is_known(firsts, lasts, i);
-        i += 1;
-    }
-    known
 }
 
 // What is said of a question with no index: that it is passed, or its number.
-fn said(question: u8, passed: bool) -> Asked
-    ensures { asked_case result ≡ outcome (ask question 0 passed ∷ []) tt }
+fn said(question: Question, passed: bool) -> Answer<()>
+    ensures { asked_case result ≡ outcome (ask (number question) 0 passed ∷ []) tt }
 {
-    if passed {
-        return Asked::Passed;
-    }
-    no(question, 0)
+    if passed { Ok(()) } else { no(question, 0) }
 }
 
 // Whether a row limit or a share is one that a query can have.
@@ -157,65 +113,39 @@ fn bound_is_known(bound: Bound) -> bool
     ensures { result ≡ bound_known bound }
 {
     match bound {
-        Bound::Rows(c) => c <= 64,
+        Bound::Rows(c) => usize::from(c) <= MOST_ROWS,
         Bound::Share(p) => p <= MOST_SHARE,
     }
 }
 
 // Questions 3 and 25, of a bound and the width of a memory.
-pub fn ask_bound(bound: Bound, width: u16) -> Asked
+pub fn ask_bound(bound: Bound, width: u16) -> Answer<()>
     ensures { asked_case result ≡ outcome (ask 3 0 (bound_known bound) ∷ ask_width width ∷ []) tt }
 {
-    if !bound_is_known(bound) {
-        return no(3, 0);
-    }
-    said(25, is_width(width))
+    said(Question::Bound, bound_is_known(bound))?;
+    said(Question::Width, is_width(width))
 }
 
 // Question 18 or 19, of a query by windows.
-pub fn ask_windows(query: RuledQuery) -> Asked
+// That the rule is no bound is one equation of one definition, and no type.
+pub fn ask_windows(query: RuledQuery) -> Answer<()>
     requires { bound_in query.rule ≡ none }
     ensures { asked_case result ≡ outcome (rule_question query ∷ []) tt }
 {
-    let rule = query.rule;
-    match rule {
-        Rule::Rows(_) => no(3, 0),
-        Rule::Share(_) => no(3, 0),
-        Rule::Every { length, start: _ } => said(18, length > 0),
-        Rule::Scenes(count) => {
-            let known = scenes_are_known(&query.firsts, &query.lasts, count);
-            said(19, known)
-        }
+    match query.rule {
+        Rule::Rows(_) | Rule::Share(_) => no(Question::Bound, 0),
+        Rule::Every { length, .. } => said(Question::WindowLength, length > 0),
+        Rule::Scenes(count) => said(Question::Scenes, scenes_are_known(&query, count)),
     }
 }
 
-// Whether a rule is a bound.
-pub fn is_bound(rule: Rule) -> bool
-    ensures { result ≡ is_some (bound_in rule) }
+// The bound that a rule is, none for windows.
+pub fn bound_in(rule: Rule) -> Option<Bound>
+    ensures { option_of result ≡ bound_in rule }
 {
     match rule {
-        Rule::Rows(_) => true,
-        Rule::Share(_) => true,
-        Rule::Every {
-            length: _,
-            start: _,
-        } => false,
-        Rule::Scenes(_) => false,
-    }
-}
-
-// The bound that a rule is.
-pub fn bound_of(rule: Rule) -> Bound
-    requires { is_some (bound_in rule) ≡ true }
-    ensures { bound_in rule ≡ some result }
-{
-    match rule {
-        Rule::Rows(c) => Bound::Rows(c),
-        Rule::Share(p) => Bound::Share(p),
-        Rule::Every {
-            length: _,
-            start: _,
-        } => Bound::Rows(0),
-        Rule::Scenes(_) => Bound::Rows(0),
+        Rule::Rows(c) => Some(Bound::Rows(c)),
+        Rule::Share(p) => Some(Bound::Share(p)),
+        Rule::Every { .. } | Rule::Scenes(_) => None,
     }
 }

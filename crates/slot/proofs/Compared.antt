@@ -17,16 +17,16 @@ use Rattle.slot.specs.Places.{place_of, least_place}
 
 -- a mark is compared as one number
 pub marked_number : (bytes : List ℕ) (i a b : ℕ) → get_or bytes i 0 < 256 → a < 256
-    → eqb (number_at 2 bytes i) (a + 256 * b) ≡ marked bytes i a b
+    → eqb (number_at 2 bytes i) (a + b * 256) ≡ marked bytes i a b
 unfolding number_at marked
 marked_number bytes i a b small small-a =
     let low = get_or bytes i 0 in
     let high = get_or bytes (suc i) 0 in
     cases (eqb low a)
     (λ p. rw p
-    (cases (eqb high b) (λ q. rw q (eq-eqb (number_at 2 bytes i) (a + 256 * b) (omega (arith, eqb-true))))
-    (λ q. rw q (ne_eqb (number_at 2 bytes i) (a + 256 * b) (λ e. eqb-false high b q (omega (arith, eqb-true)))))))
-    (λ p. rw p (ne_eqb (number_at 2 bytes i) (a + 256 * b) (λ e. eqb-false low a p (omega arith))))
+    (cases (eqb high b) (λ q. rw q (eq-eqb (number_at 2 bytes i) (a + b * 256) (omega (arith, eqb-true))))
+    (λ q. rw q (ne_eqb (number_at 2 bytes i) (a + b * 256) (λ e. eqb-false high b q (omega (arith, eqb-true)))))))
+    (λ p. rw p (ne_eqb (number_at 2 bytes i) (a + b * 256) (λ e. eqb-false low a p (omega arith))))
 
 -- places are ordered as groups are, and as frames in a group
 places : (g f h l : ℕ) → f < 65536 → l < 65536 → ltb h g || (eqb g h && ltb l f) ≡ leb (place_of h l + 1) (place_of g f)

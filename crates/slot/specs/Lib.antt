@@ -1,2 +1,2 @@
--- What the code's numbers stand for.
+-- Where a slot's rows stand, and what the code's numbers stand for.
 pub mod Places

@@ -1,7 +1,10 @@
 -- What blocks of measured segments cost: all that a table asks of errors and gaps. And the reductions that need no table: one row, no
 -- segments, and no row for some run. Assumes nothing.
+use Rattle.std.specs.Prelude as std
+use Rattle.std.specs.Prelude.{Some, None}
+use Rattle.std.specs.Borrow.{Bor}
 use Prim.Native.Nat.{ℕ, zero, suc, ◌-◌, ◌*◌, ◌≤◌, ◌<◌, zero-le, min}
-use mathlib.Core.Bool.{Bool, true, false, ◌&&◌, not}
+use mathlib.Core.Bool.{Bool, false, ◌&&◌, not}
 use mathlib.Core.List.{List}
 use mathlib.Core.Option.{some}
 use mathlib.Core.Path.{◌≡◌, refl, sym, ap, ◌∙◌, subst}
@@ -14,7 +17,10 @@ use Rattle.model.specs.Spans.{Span}
 use Rattle.model.specs.Blocks.{segment_at, last_gap, runs_to}
 use Rattle.model.specs.Split.{single, cell, least, weighed, cuts_of, fewest, within, first_that, most_rows, chosen, rows_tried, error_of, gap_below, runs}
 use Rattle.model.specs.Reductions.{IsReduction, reduction_error}
-use Rattle.model.specs.Arrays.{span_in, spans_in}
+use Rattle.model.specs.Arrays.{span_in, segments_in}
+use Rattle.model.specs.Calls.{kind_number}
+use Rattle.model.specs.declared.Kind.{Kind}
+use Rattle.model.specs.declared.Segments.{Segments}
 use Rattle.model.specs.Room.{Measured, most_error}
 use Rattle.model.specs.declared.Bound.{Bound}
 use Rattle.model.specs.declared.Bound.TheVariants.{Rows, Share}
@@ -30,17 +36,19 @@ use Rattle.triangle.specs.Places.{gap_at, Agree}
 use Rattle.triangle.specs.Costs.{Costs}
 use Rattle.triangle.proofs.Agreeing.{costs_cong}
 use Rattle.choice.specs.Errors.{no_error, Stands}
-use Rattle.choice.specs.Bounds.{Known, covers_runs, last_row, meets, meets_in, stop_row, filled_rows, Comparable, FilledColumn}
+use Rattle.choice.specs.Bounds.{covers_runs, last_row, meets, meets_in, stop_row, filled_rows, Comparable}
+use Rattle.choice.specs.Columns.{FilledColumn}
 use Rattle.choice.proofs.Errors.{none_in, some_in}
 use Rattle.choice.proofs.Meeting.{by_rows, comparable, meets_column}
 use Rattle.choice.proofs.Choosing.{no_rows, few_rows}
 use Rattle.measures.proofs.Growing.{measurable, error_plain}
 use Rattle.errors.specs.Filled.{cost_in}
-use Rattle.cuts.specs.Held.{ascending, no_reduction, reduction_for, cuts_for}
+use Rattle.cuts.specs.Held.{ascending, reduction_for, cuts_for}
 use Rattle.cuts.specs.declared.Reduction.{Reduction}
 use Rattle.cuts.proofs.Answering.{reduction_weighed}
 use Rattle.table.proofs.Filling.{stop_met, stop_end}
-use Rattle.split.specs.Ready.{Ready, Counted, no_segments, Reduces, Shares, Reduced}
+use Rattle.choice.specs.declared.Task.{Task}
+use Rattle.split.specs.Ready.{Ready, Counted, no_segments, Reduces, Reduced}
 use Rattle.split.proofs.Sharing.{reduces_cong}
 
 -- ---- all that a table asks
@@ -86,95 +94,109 @@ costs_of kind segs ok =
 
 -- ---- segments in arrays
 
-module _ (kind : ℕ) {groups firsts lasts values : List ℕ} {n m : ℕ} {bound : Bound} (c : Counted groups firsts lasts values n m bound) where
-  abbrev segs : List (Span ℕ)
-  segs = spans_in groups firsts lasts values n
+pub count_is : (segments : Segments) → length (segments_in segments) ≡ segments.count
+unfolding segments_in
+count_is s = length-list_from 0 s.count (span_in s.groups s.firsts s.lasts s.values)
 
-  pub costs : Costs (error_of kind segs) (gap_below segs) n m
-  costs = rw c.is_runs (rw (length-list_from 0 n (span_in groups firsts lasts values)) at (costs_of kind segs c.measured))
+pub few_segments : (segments : Segments) → Measured (segments_in segments) → segments.count ≤ 255
+few_segments segments ok = omega (arith, ok.few, count_is segments)
 
-  module _ (gaps : List ℕ) (gaps-at : (i : ℕ) → i ≤ n → get_or gaps i 0 ≡ gap_below segs i) where
+module _ (kind : ℕ) {segments : Segments} {task : Task} (c : Counted segments task) where
+  pub costs : Costs (error_of kind (segments_in segments)) (gap_below (segments_in segments)) task.segments task.runs
+  costs = rw (c.all, c.is_runs) (rw (count_is segments) at (costs_of kind (segments_in segments) c.measured))
+
+  -- the error of all segments, without groups, is their own
+  pub whole_is : (e : ℕ) → e ≡ cost_in kind segments 0 segments.count → e ≡ error_of kind (segments_in segments) 0 task.segments
+  whole_is e is = is ∙ sym (error_plain segments kind 0 segments.count (omega arith)) ∙ ap (error_of kind (segments_in segments) 0) (sym c.all)
+
+  -- the reduction by the task is that of the segments
+  pub reduced : {bound : Bound} {r : std.Option Reduction} {before after : List ℕ}
+      → Reduces (error_of kind (segments_in segments)) (gap_below (segments_in segments)) task.segments task.runs bound r before after
+      → Reduced kind segments bound r before after
+  reduced {bound} {r} {before} {after} h =
+      subst (λ (n : ℕ). Reduces (error_of kind (segments_in segments)) (gap_below (segments_in segments)) n (runs (segments_in segments)) bound r before after) c.all
+      (subst (λ (m : ℕ). Reduces (error_of kind (segments_in segments)) (gap_below (segments_in segments)) task.segments m bound r before after) c.is_runs h)
+
+  module _ (gaps : List ℕ) (gaps-at : (i : ℕ) → i ≤ segments.count → get_or gaps i 0 ≡ gap_below (segments_in segments) i) where
     -- the blocks' costs without groups, and the gaps that are held, are the segments' own
-    pub agree : Agree (cost_in kind firsts lasts values) (gap_at gaps) (error_of kind segs) (gap_below segs) n
+    agree : Agree (cost_in kind segments) (gap_at gaps) (error_of kind (segments_in segments)) (gap_below (segments_in segments)) task.segments
     unfolding gap_at
     agree =
-        record { gaps = gaps-at; errors = λ j i above lt le. sym (error_plain groups firsts lasts values kind n j i le) }
-
-    pub ready : Ready kind firsts lasts values gaps n m bound
-    ready =
+        let all = c.all in
         record {
-          measurable = measurable groups firsts lasts values n c.measured;
-          costs = costs_cong agree costs;
-          some_segments = c.some_segments;
-          known = c.known;
-          covers = c.covers;
+          gaps = λ i le. gaps-at i (omega arith);
+          errors = λ j i above lt le. sym (error_plain segments kind j i (omega arith));
         }
 
-    -- and so is the reduction by them
-    pub reduced : {r : Reduction} {before after : List ℕ} → Shares kind firsts lasts values gaps n m bound r before after
-        → Reduced kind groups firsts lasts values n bound r before after
-    reduced {r} {before} {after} h =
-        subst (λ (x : ℕ). Reduces (error_of kind segs) (gap_below segs) n x bound r before after) c.is_runs (reduces_cong agree m bound h)
+    pub costs_held : Costs (cost_in kind segments) (gap_at gaps) task.segments task.runs
+    costs_held = costs_cong agree costs
 
--- where there is a segment there is a run
-pub some_run : {kind : ℕ} {firsts lasts values gaps : List ℕ} {n m : ℕ} {bound : Bound} → Ready kind firsts lasts values gaps n m bound → m ≡ 0 → ⊥
-some_run {kind} {firsts} {lasts} {values} {gaps} {n} r no_runs =
-    none≢some (no_rows (cost_in kind firsts lasts values) (gap_at gaps) n r.some_segments) (r.costs.possible 0 (omega arith) (omega arith)).1
+    -- and so is the reduction by them
+    pub reduced_held : {bound : Bound} {r : std.Option Reduction} {before after : List ℕ}
+        → Reduces (cost_in kind segments) (gap_at gaps) task.segments task.runs bound r before after
+        → Reduced kind segments bound r before after
+    reduced_held {bound} h = reduced (reduces_cong agree task.runs bound h)
+
+-- segments with their gaps are ready
+pub ready : (segments : Bor Segments) (gaps : Bor (List ℕ)) (kind : Kind) (task : Task) → Counted segments.now task
+    → ((i : ℕ) → i ≤ segments.now.count → get_or gaps.now i 0 ≡ gap_below (segments_in segments.now) i)
+    → Ready (record { segments = segments; gaps = gaps; kind = kind; task = task })
+ready segments gaps kind task c gaps-at =
+    record {
+      all = c.all;
+      measurable = measurable segments.now c.measured;
+      costs = costs_held (kind_number kind) c gaps.now gaps-at;
+    }
 
 -- ---- one row
 
 -- the error of one row is that of the block of all segments
-one_error : (err : ℕ → ℕ → ℕ) (low : ℕ → ℕ) (n t : ℕ) → 1 ≤ n → least err low 1 n ≡ some t → t ≡ err 0 n
+one_row_error : (err : ℕ → ℕ → ℕ) (low : ℕ → ℕ) (n t : ℕ) → 1 ≤ n → least err low 1 n ≡ some t → t ≡ err 0 n
 unfolding least cell single
-one_error err low zero t some_segments e = absurd (omega arith)
-one_error err low (suc n) t some_segments e =
+one_row_error err low zero t some_segments e = absurd (omega arith)
+one_row_error err low (suc n) t some_segments e =
     cases (eqb (low (suc n)) 0) (λ whole. sym (some_inj refl (rw whole at e)))
     (λ cut. absurd (none≢some {a = t} refl (rw cut at e)))
 
-module _ {err : ℕ → ℕ → ℕ} {low : ℕ → ℕ} {n : ℕ} (costs : Costs err low n 1) (some_segments : 1 ≤ n) (column : List ℕ) (e : ℕ) (blank : column ≡ replicate 65 no_error) (is-error : e ≡ err 0 n) where
+-- the errors by row count where that of one row alone is worked out
+abbrev pub one_error : ℕ → List ℕ
+one_error e = set (replicate 65 no_error) 1 e
+
+module _ {err : ℕ → ℕ → ℕ} {low : ℕ → ℕ} (task : Task) (costs : Costs err low task.segments task.runs) (one : task.runs ≡ 1) (e : ℕ) (is-error : e ≡ err 0 task.segments) where
   -- the errors of no row and of one
-  one_column : (k : ℕ) → k ≤ 1 → Stands (get_or (set column 1 e) k 0) (by_rows err low n k)
+  one_column : (k : ℕ) → k ≤ 1 → Stands (get_or (one_error e) k 0) (by_rows err low task.segments k)
   one_column k le =
-      let (t, is) = costs.possible 1 (omega arith) some_segments in
-      let same = one_error err low n t some_segments is in
-      let small = costs.least_le 1 n t (omega arith) is in
-      rw blank
-      (after_set (λ x v. Stands v (by_rows err low n x)) (replicate 65 no_error) 1 e (rw (length-replicate 65 no_error) (lit< tt))
+      let (t, is) = costs.possible 1 (omega arith) task.some_segments in
+      let same = one_row_error err low task.segments t task.some_segments is in
+      let small = costs.least_le 1 task.segments t (omega arith) is in
+      after_set (λ x v. Stands v (by_rows err low task.segments x)) (replicate 65 no_error) 1 e (rw (length-replicate 65 no_error) (lit< tt))
       (rw is (record { is = some_in e (omega arith) ∙ ap some (is-error ∙ sym same); le = omega arith })) k
       (λ other.
       let first : k ≡ 0 = omega arith in
-      rw (first, get_or-replicate 65 0 no_error 0 (lit< tt), no_rows err low n some_segments)
-      (record { is = none_in no_error (omega arith); le = omega arith })))
+      rw (first, get_or-replicate 65 0 no_error 0 (lit< tt), no_rows err low task.segments task.some_segments)
+      (record { is = none_in no_error (omega arith); le = omega arith }))
 
-  module _ (bound : Bound) (known : Known bound) where
-    pub one_comparable : Comparable bound (set column 1 e) 1 1
-    one_comparable = comparable costs (set column 1 e) 1 (λ k le. (one_column k le).is) some_segments bound known (lit< tt)
+  pub one_comparable : Comparable task.bound (one_error e) task.runs 1
+  one_comparable = comparable costs (one_error e) 1 (λ k le. (one_column k le).is) task.some_segments task.bound task.known (lit< tt)
 
-    -- and no further row is tried
-    pub one_filled : {last : ℕ} {more : Bool} → covers_runs bound 1 ≡ true → last ≡ last_row bound n
-        → more ≡ ltb 1 last && not (meets_in bound (set column 1 e) 1 1) → more ≡ false → FilledColumn err low n 1 bound (set column 1 e) 1
-    unfolding filled_rows
-    one_filled {last} {more} covers is_last goes stops =
-        record {
-          costs = costs;
-          some_segments = some_segments;
-          known = known;
-          covers = covers;
-          rows = rw (← is_last) (sym stopped);
-          errors = one_column;
-        }
-      where
-        met : meets_in bound (set column 1 e) 1 1 ≡ meets bound (by_rows err low n) 1 1
-        met = meets_column costs (set column 1 e) 1 (λ k le. (one_column k le).is) some_segments bound
+  -- and no further row is tried
+  pub one_filled : {last : ℕ} {more : Bool} → last ≡ last_row task.bound task.segments
+      → more ≡ ltb 1 last && not (meets_in task.bound (one_error e) task.runs 1) → more ≡ false → FilledColumn err low task (one_error e) 1
+  unfolding filled_rows
+  one_filled {last} {more} is_last goes stops =
+      record { costs = costs; rows = rw (← is_last) (sym stopped); errors = one_column }
+    where
+      met : meets_in task.bound (one_error e) task.runs 1 ≡ meets task.bound (by_rows err low task.segments) task.runs 1
+      met = meets_column costs (one_error e) 1 (λ k le. (one_column k le).is) task.some_segments task.bound
 
-        stopped : stop_row (meets bound (by_rows err low n) 1) 1 (last - 1) ≡ 1
-        stopped =
-            cases (ltb 1 last)
-            (λ lt.
-            cases (meets bound (by_rows err low n) 1 1)
-            (λ is. stop_met (meets bound (by_rows err low n) 1) 1 last (ltb-true 1 last lt) is)
-            (λ unmet. absurd (true≢false (sym (rw (lt, met, unmet) at goes) ∙ stops))))
-            (λ far. stop_end (meets bound (by_rows err low n) 1) 1 last (ltb-false 1 last far))
+      stopped : stop_row (meets task.bound (by_rows err low task.segments) task.runs) 1 (last - 1) ≡ 1
+      stopped =
+          cases (ltb 1 last)
+          (λ lt.
+          cases (meets task.bound (by_rows err low task.segments) task.runs 1)
+          (λ is. stop_met (meets task.bound (by_rows err low task.segments) task.runs) 1 last (ltb-true 1 last lt) is)
+          (λ unmet. absurd (true≢false (sym (rw (lt, met, unmet) at goes) ∙ stops))))
+          (λ far. stop_end (meets task.bound (by_rows err low task.segments) task.runs) 1 last (ltb-false 1 last far))
 
 -- ---- no segments, and no row for some run
 
@@ -192,40 +214,25 @@ module _ (err : ℕ → ℕ → ℕ) (low : ℕ → ℕ) where
   none_tried (Share p) = refl
 
   pub no_segments_lem : (n m : ℕ) (bound : Bound) (cuts : List ℕ) → n ≡ 0 → m ≡ 0
-      → (no_segments ≡ reduction_for err low n m bound) × (cuts ≡ cuts_for err low n m bound cuts)
+      → (Some no_segments ≡ reduction_for err low n m bound) × (cuts ≡ cuts_for err low n m bound cuts)
   unfolding reduction_for cuts_for cuts_of ascending least cell weighed sum_from
   no_segments_lem n m bound cuts none_here no_runs =
       rw (none_here, no_runs)
       (rw (none_chosen bound, reduction_for, none_tried bound), rw (none_chosen bound, cuts_for))
 
   pub too_few_lem : (n m : ℕ) (bound : Bound) (cuts : List ℕ) → covers_runs bound m ≡ false
-      → (no_reduction ≡ reduction_for err low n m bound) × (cuts ≡ cuts_for err low n m bound cuts)
+      → (None ≡ reduction_for err low n m bound) × (cuts ≡ cuts_for err low n m bound cuts)
   unfolding reduction_for cuts_for
   too_few_lem n m bound cuts few =
       let none_here = few_rows (by_rows err low n) n m bound few in
       (rw (none_here, reduction_for), rw (none_here, cuts_for))
 
 -- a reduction by equation has its cuts weighed within the bound
-pub reduces : {err : ℕ → ℕ → ℕ} {low : ℕ → ℕ} {n m : ℕ} {bound : Bound} {r : Reduction} {before after : List ℕ}
+pub reduces : {err : ℕ → ℕ → ℕ} {low : ℕ → ℕ} {n m : ℕ} {bound : Bound} {r : std.Option Reduction} {before after : List ℕ}
     → (r ≡ reduction_for err low n m bound) × (after ≡ cuts_for err low n m bound before) → Reduces err low n m bound r before after
 reduces {err} {low} {n} {m} {bound} {r} (answer, cuts) =
     record { answer = answer; cuts = cuts; weighed = reduction_weighed err low n m bound r answer }
 
-module _ (groups firsts lasts values : List ℕ) (n : ℕ) where
-  pub few_segments : Measured (spans_in groups firsts lasts values n) → n ≤ 255
-  few_segments ok = omega (arith, ok.few, length-list_from 0 n (span_in groups firsts lasts values))
-
-  pub no_runs : n ≡ 0 → runs (spans_in groups firsts lasts values n) ≡ 0
-  unfolding runs runs_to list_from
-  no_runs none_here = rw none_here
-
--- the same of segments in arrays
-pub reduced_by : (kind : ℕ) {groups firsts lasts values : List ℕ} {n m : ℕ} {bound : Bound} → Counted groups firsts lasts values n m bound
-    → {r : Reduction} {before after : List ℕ}
-    → (r ≡ reduction_for (error_of kind (spans_in groups firsts lasts values n)) (gap_below (spans_in groups firsts lasts values n)) n m bound)
-    × (after ≡ cuts_for (error_of kind (spans_in groups firsts lasts values n)) (gap_below (spans_in groups firsts lasts values n)) n m bound before)
-    → Reduced kind groups firsts lasts values n bound r before after
-reduced_by kind {groups} {firsts} {lasts} {values} {n} {m} {bound} c {r} {before} {after} h =
-    subst
-    (λ (x : ℕ). Reduces (error_of kind (spans_in groups firsts lasts values n)) (gap_below (spans_in groups firsts lasts values n)) n x bound r before after)
-    c.is_runs (reduces h)
+pub no_runs : (segments : Segments) → segments.count ≡ 0 → runs (segments_in segments) ≡ 0
+unfolding runs runs_to list_from segments_in
+no_runs segments none_here = rw none_here

@@ -1,10 +1,10 @@
 -- The reduction that answers a bound sees no more of errors and gaps than those of blocks that cross no gap. Assumes nothing.
+use Rattle.std.specs.Prelude as std
 use Prim.Native.Nat.{ℕ, ◌+◌, ◌≤◌}
 use mathlib.Core.List.{List}
 use mathlib.Core.Option.{Option, none, some}
 use mathlib.Core.Path.{◌≡◌, refl, ap, ◌∙◌}
 use native.Mathlib.Omega.{arith}
-use lib.ListN.{length, replicate, length-replicate}
 use Rattle.model.specs.Split.{chosen, rows_tried}
 use Rattle.model.specs.declared.Bound.{Bound}
 use Rattle.triangle.specs.Places.{row_start, Agree}
@@ -16,10 +16,8 @@ use Rattle.cuts.specs.declared.Reduction.{Reduction}
 use Rattle.split.specs.Ready.{Reduces}
 
 -- places for the blocks of `most` segments are enough for fewer
-pub room_for : (n most : ℕ) (errors : List ℕ) → n ≤ most → errors ≡ replicate (row_start (most + 1)) 0 → row_start (n + 1) ≤ length errors
-room_for n most errors le is =
-    let more = start_mono (n + 1) (most + 1) (omega arith) in
-    omega (arith, ap length is ∙ length-replicate {A = ℕ} (row_start (most + 1)) 0)
+pub room_for : (n most : ℕ) → n ≤ most → row_start (n + 1) ≤ row_start (most + 1)
+room_for n most le = start_mono (n + 1) (most + 1) (omega arith)
 
 module _ {err err' : ℕ → ℕ → ℕ} {low low' : ℕ → ℕ} {n : ℕ} (same : Agree err low err' low' n) (m : ℕ) (bound : Bound) where
   same_choice : chosen bound (by_rows err low n) n m ≡ chosen bound (by_rows err' low' n) n m
@@ -42,6 +40,6 @@ module _ {err err' : ℕ → ℕ → ℕ} {low low' : ℕ → ℕ} {n : ℕ} (sa
       by none e = rw (same_choice ∙ e, cuts_for, e, cuts_for)
       by (some k) e = rw (same_choice ∙ e, cuts_for, e, cuts_for, cuts_cong same k n (omega arith))
 
-  pub reduces_cong : {r : Reduction} {before after : List ℕ} → Reduces err low n m bound r before after → Reduces err' low' n m bound r before after
+  pub reduces_cong : {r : std.Option Reduction} {before after : List ℕ} → Reduces err low n m bound r before after → Reduces err' low' n m bound r before after
   reduces_cong {r} {before} h =
       record { answer = h.answer ∙ reduction_cong; cuts = h.cuts ∙ cuts_for_cong before; weighed = h.weighed }

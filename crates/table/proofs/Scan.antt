@@ -83,10 +83,11 @@ module _ (err : ℕ → ℕ → ℕ) (low : ℕ → ℕ) where
   unfolding least cell single
   first_none = record { is = none_in no_error (omega arith); le = omega arith }
 
-  pub first_error : (i gap e v : ℕ) → gap ≡ low (i + 1) → e ≡ err 0 (i + 1) → Stands v (cond (eqb gap 0) (some e) none)
-      → Stands v (least err low 1 (i + 1))
+  pub first_error : (i gap e v : ℕ) → 1 ≤ i → gap ≡ low i → e ≡ err 0 i → Stands v (cond (eqb gap 0) (some e) none)
+      → Stands v (least err low 1 i)
   unfolding least cell single
-  first_error i gap e v is-gap is-error stands = rw add-one (rw (is-gap, is-error, add-one) at stands)
+  first_error zero gap e v some_segments is-gap is-error stands = absurd (omega arith)
+  first_error (suc i) gap e v some_segments is-gap is-error stands = rw (is-gap, is-error) at stands
 
   pub cell_scan : (k i : ℕ) → 2 ≤ k
       → scan (least err low (k - 1)) (λ j. err j i) (max (k - 1) (low i)) (i - max (k - 1) (low i)) untried ≡ cell err low k i

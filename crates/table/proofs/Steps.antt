@@ -25,7 +25,8 @@ use Rattle.triangle.specs.Places.{row_start}
 use Rattle.triangle.proofs.Starts.{start_le, in_room}
 use Rattle.triangle.proofs.Agreeing.{weigh_cut}
 use Rattle.choice.specs.Errors.{no_error, error_in, Stands}
-use Rattle.choice.specs.Bounds.{Known, covers_runs, last_row, meets, meets_in, stop_row, filled_rows, Comparable}
+use Rattle.choice.specs.declared.Task.{Task}
+use Rattle.choice.specs.Bounds.{Known, last_row, meets, meets_in, stop_row, filled_rows, Comparable}
 use Rattle.choice.proofs.Errors.{none_in, exceeds_in}
 use Rattle.choice.proofs.Meeting.{by_rows, comparable, meets_column}
 use Rattle.choice.proofs.Choosing.{no_rows, last_pos}
@@ -34,14 +35,6 @@ use Rattle.table.specs.declared.Best.{Best}
 use Rattle.table.specs.Held.{best_in, FirstRow}
 use Rattle.table.proofs.Scan.{plus_in, weigh_tried, scan_left, scan_end, scan_on, cell_scan}
 use Rattle.table.proofs.Filling.{place_first, place_out, place_other, place_short, place_here, weighed_from, weighed_start, weighed_row, weighed_cell, weighed_end, weighed_small, stop_on, stop_met, stop_end}
-
--- the places of an array of 256 numbers of 8 bytes
-pub record Place (x : ℕ) : Type 0 where
-  pub inside : x < 256
-  pub offset : Fits w64 (x * 8)
-
-pub place : (x : ℕ) → x ≤ 255 → Place x
-place x le = record { inside = omega arith; offset = omega arith }
 
 -- ---- one scan
 
@@ -66,28 +59,7 @@ pub record Found (err : ℕ → ℕ → ℕ) (gap : ℕ → ℕ) (k i : ℕ) (be
   pub total : best.total ≤ no_error
   pub cut : best.cut < i
 
--- the numbers of a scan are in range
-pub record InScan (at : ℕ) (best : Best) : Type 0 where
-  pub some : 0 < at
-  pub place : Place (at - 1)
-  pub tried : best.tried < 256
-  pub falls : at - 1 < at
-
 module _ {err : ℕ → ℕ → ℕ} {gap : ℕ → ℕ} {n m k : ℕ} {errors : List ℕ} {i low at : ℕ} {best : Best} (inv : Scanning err gap n m k errors i low at best) where
-  pub in_scan : InScan at best
-  in_scan =
-      let few = inv.costs.few in
-      let inside = inv.inside in
-      let from = inv.from in
-      let to = inv.to in
-      let tried = inv.tried in
-      record {
-        some = omega arith;
-        place = place _ (omega arith);
-        tried = omega arith;
-        falls = omega arith;
-      }
-
   -- the place of the error of the block that begins with the candidate
   pub candidate_place : {size start : ℕ} → row_start (n + 1) ≤ size → start ≡ row_start i
       → (start + (at - 1) < size) × Fits w64 (start + (at - 1)) × Fits w64 ((start + (at - 1)) * 8)
@@ -201,33 +173,7 @@ pub record Cells (err : ℕ → ℕ → ℕ) (gap : ℕ → ℕ) (n m k : ℕ) (
   pub places_new : (x : ℕ) → x < 16384 → i ≤ x % 256 → get_or table x 0 ≡ table_place err gap k n x
   pub count : weighed ≡ weighed_from err gap n k i
 
--- the numbers of the cell before i are in range, with its entries in row k and, d > 1, in rows before it
-pub record InRow (k i : ℕ) : Type 0 where
-  pub cell : 1 ≤ i
-  pub row : (d : ℕ) → d ≤ 2 → d ≤ k
-  pub place : Place (i - 1)
-  pub line : (d : ℕ) → Fits w64 ((k - d) * 256)
-  pub entry : (d : ℕ) → Fits w64 ((k - d) * 256 + (i - 1))
-  pub entry_place : (d : ℕ) → 0 < d → (k - d) * 256 + (i - 1) < 16384
-  pub falls : i - 1 < i
-
 module _ {err : ℕ → ℕ → ℕ} {gap : ℕ → ℕ} {n m k : ℕ} {errors table : List ℕ} {weighed i : ℕ} (inv : Cells err gap n m k errors table weighed i) (more : k < i) where
-  pub in_row : InRow k i
-  in_row =
-      let few = inv.few in
-      let second = inv.second in
-      let rows = inv.rows in
-      let to = inv.to in
-      record {
-        cell = omega arith;
-        row = λ d le. omega arith;
-        place = place (i - 1) (omega arith);
-        line = λ d. omega arith;
-        entry = λ d. omega arith;
-        entry_place = λ d some. omega arith;
-        falls = omega arith;
-      }
-
   -- the scan of the cell before i begins
   pub scan_start : (g low : ℕ) → g ≡ gap (i - 1) → low ≡ max (k - 1) g
       → Scanning err gap n m k errors (i - 1) low (i - 1) (record { total = no_error; cut = 0; tried = 0 })
@@ -325,56 +271,47 @@ module _ {err : ℕ → ℕ → ℕ} {gap : ℕ → ℕ} {n m k : ℕ} {errors t
 
 -- ---- the rows
 
--- the rows to k are filled, of those to `last` that the bound may ask for; m is the number of runs
-pub record Filled (err : ℕ → ℕ → ℕ) (gap : ℕ → ℕ) (n m : ℕ) (bound : Bound) (last : ℕ) (errors column table : List ℕ) (weighed k : ℕ) : Type 0 where
-  pub costs : Costs err gap n m
-  pub known : Known bound
-  pub covers : covers_runs bound m ≡ true
-  pub some_segments : 1 ≤ n
+-- the rows to k are filled, of those to `last` that the bound may ask for
+pub record Filled (err : ℕ → ℕ → ℕ) (gap : ℕ → ℕ) (task : Task) (last : ℕ) (errors column table : List ℕ) (weighed k : ℕ) : Type 0 where
+  pub costs : Costs err gap task.segments task.runs
   pub rows : last ≤ 64
-  pub inside : last ≤ n
+  pub inside : last ≤ task.segments
   pub from : 1 ≤ k
   pub to : k ≤ last
   pub size_errors : length errors ≡ 256
   pub size_column : length column ≡ 65
   pub size_table : length table ≡ 16384
-  pub errors_at : (x : ℕ) → k ≤ x → x ≤ n → Stands (get_or errors x 0) (least err gap k x)
-  pub column_at : (x : ℕ) → x ≤ k → Stands (get_or column x 0) (by_rows err gap n x)
-  pub places : (x : ℕ) → x < 16384 → get_or table x 0 ≡ table_place err gap k n x
-  pub count : weighed ≡ split.weighed err gap k n
-  pub left : stop_row (meets bound (by_rows err gap n) m) k (last - k) ≡ filled_rows bound (by_rows err gap n) n m
+  pub errors_at : (x : ℕ) → k ≤ x → x ≤ task.segments → Stands (get_or errors x 0) (least err gap k x)
+  pub column_at : (x : ℕ) → x ≤ k → Stands (get_or column x 0) (by_rows err gap task.segments x)
+  pub places : (x : ℕ) → x < 16384 → get_or table x 0 ≡ table_place err gap k task.segments x
+  pub count : weighed ≡ split.weighed err gap k task.segments
+  pub left : stop_row (meets task.bound (by_rows err gap task.segments) task.runs) k (last - k)
+      ≡ filled_rows task.bound (by_rows err gap task.segments) task.segments task.runs
 
--- the place of the error of all segments
-pub all_place : {err : ℕ → ℕ → ℕ} {gap : ℕ → ℕ} {n m : ℕ} → Costs err gap n m → Place n
-all_place costs = place _ costs.few
-
-module _ {err : ℕ → ℕ → ℕ} {gap : ℕ → ℕ} {n m : ℕ} (costs : Costs err gap n m) (some_segments : 1 ≤ n) (bound : Bound) (known : Known bound) (covers : covers_runs bound m ≡ true) {last : ℕ} (is_last : last ≡ last_row bound n) where
-  last_le : (b : Bound) → Known b → (last_row b n ≤ 64) × (last_row b n ≤ n)
+module _ {err : ℕ → ℕ → ℕ} {gap : ℕ → ℕ} (task : Task) (costs : Costs err gap task.segments task.runs) {last : ℕ} (is_last : last ≡ last_row task.bound task.segments) where
+  last_le : (b : Bound) → Known b → (last_row b task.segments ≤ 64) × (last_row b task.segments ≤ task.segments)
   unfolding last_row Known most_rows
   last_le (Rows c) h = (omega arith, omega arith)
   last_le (Share p) h = (omega arith, omega arith)
 
   -- in no row the error is 'none', since there is a segment
-  column_first : (column : List ℕ) (v : ℕ) → length column ≡ 65 → Stands v (by_rows err gap n 1) → (x : ℕ) → x ≤ 1
-      → Stands (get_or (set (set column 0 no_error) 1 v) x 0) (by_rows err gap n x)
+  column_first : (column : List ℕ) (v : ℕ) → length column ≡ 65 → Stands v (by_rows err gap task.segments 1) → (x : ℕ) → x ≤ 1
+      → Stands (get_or (set (set column 0 no_error) 1 v) x 0) (by_rows err gap task.segments x)
   column_first column v size is x le =
-      after_set (λ y v. Stands v (by_rows err gap n y)) (set column 0 no_error) 1 v (simp length-set (omega arith)) is x
+      after_set (λ y v. Stands v (by_rows err gap task.segments y)) (set column 0 no_error) 1 v (simp length-set (omega arith)) is x
       (λ other.
       let first : x ≡ 0 = omega arith in
-      rw (first, get_or-set_same column 0 no_error 0 (omega arith), no_rows err gap n some_segments)
+      rw (first, get_or-set_same column 0 no_error 0 (omega arith), no_rows err gap task.segments task.some_segments)
       (record { is = none_in no_error (omega arith); le = omega arith }))
 
-  pub filled_start : {errors table : List ℕ} (column : List ℕ) → FirstRow err gap n errors → length column ≡ 65 → table ≡ replicate 16384 0
-      → Filled err gap n m bound last errors (set (set column 0 no_error) 1 (get_or errors n 0)) table 0 1
+  pub filled_start : {errors table : List ℕ} (column : List ℕ) → FirstRow err gap task.segments errors → length column ≡ 65 → table ≡ replicate 16384 0
+      → Filled err gap task last errors (set (set column 0 no_error) 1 (get_or errors task.segments 0)) table 0 1
   unfolding filled_rows
   filled_start {errors} column first size is-table =
-      let (rows, inside) = last_le bound known in
-      let tries = last_pos costs some_segments bound covers in
+      let (rows, inside) = last_le task.bound task.known in
+      let tries = last_pos costs task.some_segments task.bound task.covers in
       record {
         costs = costs;
-        known = known;
-        covers = covers;
-        some_segments = some_segments;
         rows = omega arith;
         inside = omega arith;
         from = omega arith;
@@ -383,58 +320,34 @@ module _ {err : ℕ → ℕ → ℕ} {gap : ℕ → ℕ} {n m : ℕ} (costs : Co
         size_column = simp length-set size;
         size_table = ap length is-table ∙ length-replicate {A = ℕ} 16384 0;
         errors_at = λ x lo hi. first.errors_at x hi;
-        column_at = column_first column (get_or errors n 0) size (first.errors_at n (omega arith));
-        places = λ x lt. rw is-table (get_or-replicate 16384 x 0 0 lt ∙ place_first err gap n x);
-        count = weighed_start err gap n;
+        column_at = column_first column (get_or errors task.segments 0) size (first.errors_at task.segments (omega arith));
+        places = λ x lt. rw is-table (get_or-replicate 16384 x 0 0 lt ∙ place_first err gap task.segments x);
+        count = weighed_start err gap task.segments;
         left = rw is_last;
       }
 
--- the numbers of the row after k are in range
-pub record InTable (n last k : ℕ) : Type 0 where
-  pub next : Fits w64 (k + 1)
-  pub end : Fits w64 (n + 1)
-  pub whole : Place n
-  pub row : k + 1 < 65
-  pub row_offset : Fits w64 ((k + 1) * 8)
-  pub falls : last - (k + 1) < last - k
-
-module _ {err : ℕ → ℕ → ℕ} {gap : ℕ → ℕ} {n m : ℕ} {bound : Bound} {last : ℕ} {errors column table : List ℕ} {weighed k : ℕ} (inv : Filled err gap n m bound last errors column table weighed k) where
-  inside : k ≤ n
+module _ {err : ℕ → ℕ → ℕ} {gap : ℕ → ℕ} {task : Task} {last : ℕ} {errors column table : List ℕ} {weighed k : ℕ} (inv : Filled err gap task last errors column table weighed k) where
+  inside : k ≤ task.segments
   inside = let to = inv.to in let all = inv.inside in omega arith
 
   -- the errors of all segments can be compared
-  pub compares : Comparable bound column m k
+  pub compares : Comparable task.bound column task.runs k
   compares =
       let to = inv.to in
       let rows = inv.rows in
-      comparable inv.costs column k (λ x le. (inv.column_at x le).is) inside bound inv.known (omega arith)
+      comparable inv.costs column k (λ x le. (inv.column_at x le).is) inside task.bound task.known (omega arith)
 
-  met : meets_in bound column m k ≡ meets bound (by_rows err gap n) m k
-  met = meets_column inv.costs column k (λ x le. (inv.column_at x le).is) inside bound
+  met : meets_in task.bound column task.runs k ≡ meets task.bound (by_rows err gap task.segments) task.runs k
+  met = meets_column inv.costs column k (λ x le. (inv.column_at x le).is) inside task.bound
 
-  module _ {more : Bool} (goes : more ≡ ltb k last && not (meets_in bound column m k)) where
-    on : more ≡ true → (k < last) × (meets bound (by_rows err gap n) m k ≡ false)
+  module _ {more : Bool} (goes : more ≡ ltb k last && not (meets_in task.bound column task.runs k)) where
+    on : more ≡ true → (k < last) × (meets task.bound (by_rows err gap task.segments) task.runs k ≡ false)
     on e =
-        let (lt, unmet) = and-true (ltb k last) (not (meets_in bound column m k)) (sym goes ∙ e) in
+        let (lt, unmet) = and-true (ltb k last) (not (meets_in task.bound column task.runs k)) (sym goes ∙ e) in
         (ltb-true k last lt, sym met ∙ not-true _ unmet)
 
-    pub in_table : more ≡ true → InTable n last k
-    in_table e =
-        let lt = (on e).0 in
-        let rows = inv.rows in
-        let all = all_place inv.costs in
-        let few = all.inside in
-        record {
-          next = omega arith;
-          end = omega arith;
-          whole = all;
-          row = omega arith;
-          row_offset = omega arith;
-          falls = omega arith;
-        }
-
     -- the next row begins
-    pub cells_start : more ≡ true → Cells err gap n m (k + 1) errors table weighed (n + 1)
+    pub cells_start : more ≡ true → Cells err gap task.segments task.runs (k + 1) errors table weighed (task.segments + 1)
     cells_start e =
         let lt = (on e).0 in
         let from = inv.from in
@@ -453,13 +366,13 @@ module _ {err : ℕ → ℕ → ℕ} {gap : ℕ → ℕ} {n m : ℕ} {bound : Bo
           old = rw row (λ x ge lt'. inv.errors_at x ge (omega arith));
           new = λ x ge le. absurd (omega arith);
           places_old = rw row (λ x lt' short. inv.places x lt');
-          places_new = λ x lt' far. inv.places x lt' ∙ place_out err gap n k (k + 1) x (omega arith);
-          count = inv.count ∙ weighed_row err gap n k;
+          places_new = λ x lt' far. inv.places x lt' ∙ place_out err gap task.segments k (k + 1) x (omega arith);
+          count = inv.count ∙ weighed_row err gap task.segments k;
         }
 
     -- and ends
-    pub filled_next : {errors' table' : List ℕ} {weighed' i : ℕ} → Cells err gap n m (k + 1) errors' table' weighed' i → i ≤ k + 1
-        → more ≡ true → Filled err gap n m bound last errors' (set column (k + 1) (get_or errors' n 0)) table' weighed' (k + 1)
+    pub filled_next : {errors' table' : List ℕ} {weighed' i : ℕ} → Cells err gap task.segments task.runs (k + 1) errors' table' weighed' i → i ≤ k + 1
+        → more ≡ true → Filled err gap task last errors' (set column (k + 1) (get_or errors' task.segments 0)) table' weighed' (k + 1)
     filled_next {errors'} {table'} {weighed'} {i} cells end e =
         let (lt, unmet) = on e in
         let rows = inv.rows in
@@ -468,9 +381,6 @@ module _ {err : ℕ → ℕ → ℕ} {gap : ℕ → ℕ} {n m : ℕ} {bound : Bo
         let from = cells.from in
         record {
           costs = inv.costs;
-          known = inv.known;
-          covers = inv.covers;
-          some_segments = inv.some_segments;
           rows = rows;
           inside = all;
           from = omega arith;
@@ -480,39 +390,36 @@ module _ {err : ℕ → ℕ → ℕ} {gap : ℕ → ℕ} {n m : ℕ} {bound : Bo
           size_table = cells.size_table;
           errors_at = λ x lo hi. cells.new x (omega arith) hi;
           column_at = λ x le.
-              after_set (λ y v. Stands v (by_rows err gap n y)) column (k + 1) (get_or errors' n 0) (omega arith)
-              (cells.new n (omega arith) (omega arith)) x (λ other. inv.column_at x (omega arith));
+              after_set (λ y v. Stands v (by_rows err gap task.segments y)) column (k + 1) (get_or errors' task.segments 0) (omega arith)
+              (cells.new task.segments (omega arith) (omega arith)) x (λ other. inv.column_at x (omega arith));
           places = λ x small.
               elim (dec_le (k + 1) (x % 256)) [
                 | yes long ↦ cells.places_new x small (omega arith)
                 | no short ↦
                     cells.places_old x small (omega arith)
-                    ∙ place_short err gap n (k + 1) x (omega arith) (omega arith)
+                    ∙ place_short err gap task.segments (k + 1) x (omega arith) (omega arith)
               ];
           count =
               (let first_Cell : i ≡ k + 1 = omega arith in
-              cells.count ∙ rw first_Cell (weighed_end err gap n (k + 1) (omega arith)));
-          left = sym (stop_on (meets bound (by_rows err gap n) m) k last lt unmet) ∙ inv.left;
+              cells.count ∙ rw first_Cell (weighed_end err gap task.segments (k + 1) (omega arith)));
+          left = sym (stop_on (meets task.bound (by_rows err gap task.segments) task.runs) k last lt unmet) ∙ inv.left;
         }
 
-    stopped : more ≡ false → k ≡ filled_rows bound (by_rows err gap n) n m
+    stopped : more ≡ false → k ≡ filled_rows task.bound (by_rows err gap task.segments) task.segments task.runs
     stopped e =
         cases (ltb k last)
         (λ lt.
-        cases (meets bound (by_rows err gap n) m k)
-        (λ is. sym (stop_met (meets bound (by_rows err gap n) m) k last (ltb-true k last lt) is) ∙ inv.left)
+        cases (meets task.bound (by_rows err gap task.segments) task.runs k)
+        (λ is. sym (stop_met (meets task.bound (by_rows err gap task.segments) task.runs) k last (ltb-true k last lt) is) ∙ inv.left)
         (λ unmet. absurd (true≢false (sym (rw (lt, met, unmet) at goes) ∙ e))))
-        (λ far. sym (stop_end (meets bound (by_rows err gap n) m) k last (ltb-false k last far)) ∙ inv.left)
+        (λ far. sym (stop_end (meets task.bound (by_rows err gap task.segments) task.runs) k last (ltb-false k last far)) ∙ inv.left)
 
-    pub fills : more ≡ false → Fills err gap n m bound table column k weighed
+    pub fills : more ≡ false → Fills err gap task table column k weighed
     fills e =
         record {
           filled =
               record {
                 costs = inv.costs;
-                some_segments = inv.some_segments;
-                known = inv.known;
-                covers = inv.covers;
                 rows = stopped e;
                 errors = inv.column_at;
               };

@@ -1,20 +1,20 @@
 -- Bytes are zero if what is gathered from them is, of any width: the number in so many bytes is zero exactly if all of them are.
 -- Assumes nothing.
-use Prim.Native.Nat.{ℕ, zero, suc, ◌+◌, ◌-◌, ◌*◌, ◌≤◌, ◌<◌}
+use Prim.Native.Nat.{ℕ, zero, suc, ◌+◌, ◌-◌, ◌*◌, ◌≤◌}
 use mathlib.Core.Bool.{Bool, true, false, ◌&&◌, and_assoc, and-false}
 use mathlib.Core.List.{List}
 use mathlib.Core.Path.{◌≡◌, refl, sym, ap, ap₂, ◌∙◌}
 use native.Mathlib.Nat.{add-zero, suc-add, zero-add}
-use native.Mathlib.Numerals.{add-one}
 use native.Mathlib.Omega.{arith}
 use borrow.Author.Tests.{eqb-true, eqb-false, eq-eqb, ne_eqb}
 use lib.Bits.{bit_or, or_add_and, and_le_r}
 use lib.Dec.{eqb}
-use lib.ListN.{get_or}
+use lib.ListN.{length, get_or, take, drop}
+use lib.Seq.{drop-cons}
+use Rattle.std.specs.List.{list_all}
 use Rattle.model.specs.Common.{number_at}
 use Rattle.model.specs.Questions.{zeros}
 use Rattle.theory.proofs.Tests.{cases}
-use Rattle.theory.proofs.Lists.{one_more}
 
 -- ---- stretches of bytes
 
@@ -39,11 +39,13 @@ zeros_parts a b bytes from to le =
     ∙ ap (λ (z : Bool). zeros bytes from a && z) (zeros_add b rest bytes (from + a))
     ∙ sym (and_assoc (zeros bytes from a) (zeros bytes (from + a) b) (zeros bytes (from + a + b) rest))
 
--- the byte at i, and those behind it
-pub zeros_turn : (bytes : List ℕ) (i n : ℕ) → i < n
-    → zeros bytes i (n - i) ≡ eqb (get_or bytes i 0) 0 && zeros bytes (i + 1) (n - (i + 1))
+-- the bytes of a stretch, all of them
+pub zeros_listed : (n : ℕ) (bytes : List ℕ) (at : ℕ) → at + n ≤ length bytes
+    → list_all (λ b. eqb b 0) (take n (drop at bytes)) ≡ zeros bytes at n
 unfolding zeros
-zeros_turn bytes i n lt = rw (add-one i) (one_more (zeros bytes i) i n lt)
+zeros_listed zero bytes at le = refl
+zeros_listed (suc n) bytes at le =
+    rw (drop-cons bytes at 0 (omega arith)) (ap (λ (rest : Bool). eqb (get_or bytes at 0) 0 && rest) (zeros_listed n bytes (suc at) (omega arith)))
 
 -- ---- numbers
 

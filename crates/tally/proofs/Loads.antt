@@ -11,12 +11,13 @@ use lib.Dec.{eqb}
 use lib.ListN.{length, set}
 use lib.Seq.{get_or-set_same, get_or-set_other}
 use mir.Val.{bool_byte}
+use Rattle.std.specs.List.{FoldsTo}
 use Rattle.model.specs.Common.{list_from}
 use Rattle.model.specs.Spans.{Span, meets}
 use Rattle.model.specs.Log.{sum, aggregate, aggregated, meeting}
 use Rattle.theory.proofs.Tests.{cases}
 use Rattle.theory.proofs.Lists.{list_from_left, list_from_snoc}
-use Rattle.tally.specs.Tally.{own_in, owns_in, Sized, only_of, held, loads_at, stop_of, stop_at}
+use Rattle.tally.specs.Tally.{own_from, only_of, held, loads_at, loads_or, TakesUp, stop_of, stop_at}
 use Rattle.tally.specs.declared.Own.{Own}
 use Rattle.tally.proofs.Stops.{stop_le}
 
@@ -24,47 +25,44 @@ use Rattle.tally.proofs.Stops.{stop_le}
 
 -- stores past the records in hand do not change them
 owns_kept : (f l w : List ℕ) (n x y z from count : ℕ) → from + count ≤ n
-    → list_from from count (own_in (set f n x) (set l n y) (set w n z)) ≡ list_from from count (own_in f l w)
+    → list_from from count (own_from (set f n x) (set l n y) (set w n z)) ≡ list_from from count (own_from f l w)
 unfolding list_from
 owns_kept f l w n x y z from zero past = refl
 owns_kept f l w n x y z from (suc count) past =
     let other : from ≡ n → ⊥ = λ (e : from ≡ n). omega arith in
     rw (get_or-set_other f n from x 0 other, get_or-set_other l n from y 0 other, get_or-set_other w n from z 0 other)
-    (ap (λ (r : List Own). own_in f l w from ∷ r) (owns_kept f l w n x y z (suc from) count (omega arith)))
+    (ap (λ (r : List Own). own_from f l w from ∷ r) (owns_kept f l w n x y z (suc from) count (omega arith)))
 
-pub owns_more : (f l w : List ℕ) (n x y z : ℕ) → n < 128 → Sized f l w
-    → owns_in (set f n x) (set l n y) (set w n z) (suc n)
-    ≡ owns_in f l w n ++ (record { first = x; last = y; load = z } ∷ [])
-owns_more f l w n x y z room sized =
-    list_from_snoc (own_in (set f n x) (set l n y) (set w n z)) n
+pub owns_more : (f l w : List ℕ) (n x y z : ℕ) → (n < length f) × (n < length l) × (n < length w)
+    → list_from 0 (suc n) (own_from (set f n x) (set l n y) (set w n z))
+    ≡ list_from 0 n (own_from f l w) ++ (record { first = x; last = y; load = z } ∷ [])
+owns_more f l w n x y z (f_room, l_room, w_room) =
+    list_from_snoc (own_from (set f n x) (set l n y) (set w n z)) n
     ∙ rw (
-      get_or-set_same f n x 0 (omega arith),
-      get_or-set_same l n y 0 (omega arith),
-      get_or-set_same w n z 0 (omega arith),
+      get_or-set_same f n x 0 f_room,
+      get_or-set_same l n y 0 l_room,
+      get_or-set_same w n z 0 w_room,
       owns_kept f l w n x y z 0 n (omega arith),
     )
 
--- n records of group g have been selected from the first i: they and those among the records left are the group's
-abbrev pub Selected : ℕ → (ℕ → Span ℕ) → ℕ → ℕ → List ℕ → List ℕ → List ℕ → ℕ → Type 0
-Selected g h count i f l w n =
-    Sized f l w × (owns_in f l w n ++ only_of g (list_from i (count - i) h) ≡ only_of g (list_from 0 count h))
+-- these records of group g have been selected from the first i: they and those among the records left are the group's
+abbrev pub Selected : ℕ → (ℕ → Span ℕ) → ℕ → ℕ → List Own → Type 0
+Selected g h count i owns = owns ++ only_of g (list_from i (count - i) h) ≡ only_of g (list_from 0 count h)
 
--- one record more is stored where it is of the group
-pub select_more : (g : ℕ) (h : ℕ → Span ℕ) (count i : ℕ) → i < count → (f l w : List ℕ) (n : ℕ) → Selected g h count i f l w n
-    → (f' l' w' : List ℕ) (n' : ℕ) (r : Own) (b : Bool) → Sized f' l' w'
-    → owns_in f' l' w' n' ≡ owns_in f l w n ++ cond b (r ∷ []) [] → b ≡ eqb (h i).group g
-    → r ≡ record { first = (h i).first; last = (h i).last; load = (h i).value } → Selected g h count (i + 1) f' l' w' n'
-unfolding only_of
-select_more g h count i lt f l w n so_far f' l' w' n' r b sized kept chosen read =
-    let left = only_of g (list_from (suc i) (count - suc i) h) in
-    rw (add-one i) (
-      sized,
-      ap (λ (owns : List Own). owns ++ left) kept
-          ∙ append_assoc (owns_in f l w n) (cond b (r ∷ []) []) left
-          ∙ rw (chosen, read)
-          (cases (eqb (h i).group g) (λ e. rw e (rw (list_from_left h i count lt, e) at so_far.1))
-          (λ e. rw e (rw (list_from_left h i count lt, e) at so_far.1))),
-    )
+module _ (g : ℕ) (h : ℕ → Span ℕ) (count i : ℕ) (lt : i < count) (owns : List Own) (so_far : Selected g h count i owns) where
+  -- a record of the group is stored
+  pub select_more : eqb (h i).group g ≡ true → (put : List Own)
+      → put ≡ owns ++ (record { first = (h i).first; last = (h i).last; load = (h i).value } ∷ []) → Selected g h count (i + 1) put
+  unfolding only_of
+  select_more chosen put kept =
+      rw (add-one i, kept)
+      (append_assoc owns _ (only_of g (list_from (suc i) (count - suc i) h))
+      ∙ rw (list_from_left h i count lt, chosen) at so_far)
+
+  -- another one is not
+  pub select_less : eqb (h i).group g ≡ false → Selected g h count (i + 1) owns
+  unfolding only_of
+  select_less other = rw (add-one i) (rw (list_from_left h i count lt, other) at so_far)
 
 -- the loads that a group has at a stretch of frames are those of the group's records
 pub meeting_own : (rs : List (Span ℕ)) (g a b : ℕ) → meeting rs g a b ≡ loads_at a b (only_of g rs)
@@ -89,7 +87,7 @@ module _ (a b : ℕ) (h : ℕ → Own) (i count : ℕ) (lt : i < count) where
       ap (λ (l : List ℕ). length l) loads_left
       ∙ cases (held a b (h i)) (λ e. rw e (omega arith)) (λ e. rw e (omega arith))
 
-  pub fold_left : (op : ℕ → ℕ → ℕ) (start : ℕ) → ((l : List ℕ) → op start (foldr op start l) ≡ foldr op start l)
+  fold_left : (op : ℕ → ℕ → ℕ) (start : ℕ) → ((l : List ℕ) → op start (foldr op start l) ≡ foldr op start l)
       → foldr op start (loads_at a b (list_from i (count - i) h))
       ≡ op (cond (held a b (h i)) (h i).load start) (foldr op start (loads_at a b (list_from (suc i) (count - suc i) h)))
   fold_left op start unit =
@@ -104,12 +102,27 @@ module _ (a b : ℕ) (h : ℕ → Own) (i count : ℕ) (lt : i < count) where
 sum_start : (l : List ℕ) → 0 + foldr ◌+◌ 0 l ≡ foldr ◌+◌ 0 l
 sum_start l = omega arith
 
-pub least_start : (l : List ℕ) → min 65535 (foldr min 65535 l) ≡ foldr min 65535 l
+least_start : (l : List ℕ) → min 65535 (foldr min 65535 l) ≡ foldr min 65535 l
 least_start [] = omega arith
 least_start (x ∷ l) = omega (arith, least_start l)
 
-pub greatest_start : (l : List ℕ) → max 0 (foldr max 0 l) ≡ foldr max 0 l
+greatest_start : (l : List ℕ) → max 0 (foldr max 0 l) ≡ foldr max 0 l
 greatest_start l = omega arith
+
+-- ---- a fold
+
+-- what loads come to that are taken up one by one by an operation: the starts in place of those that are left out change nothing
+module _ (op : ℕ → ℕ → ℕ) (start : ℕ) (chain : (x y z : ℕ) → op (op x y) z ≡ op x (op y z))
+    (unit : (l : List ℕ) → op start (foldr op start l) ≡ foldr op start l)
+    (Take : ℕ → ℕ → ℕ → Type 0) (takes : (x y z : ℕ) → Take x y z → z ≡ op x y) (a b : ℕ) where
+  pub folded : (rs : List Own) (x r : ℕ) → FoldsTo Take x (loads_or start a b rs) r
+      → op r start ≡ op x (foldr op start (loads_at a b rs))
+  unfolding loads_or loads_at
+  folded [] x r end = rw end
+  folded (own ∷ rs) x r (y, step, rest) =
+      folded rs y r rest
+      ∙ rw (takes x _ y step)
+      (chain x _ _ ∙ cases (held a b own) (λ e. rw e) (λ e. rw e (ap (op x) (unit (loads_at a b rs)))))
 
 -- ---- a survey
 
@@ -164,14 +177,6 @@ abbrev Small : List ℕ → Type 0
 Small [] = Unit {0}
 Small (x ∷ l) = (x ≤ 65535) × Small l
 
-loads_small : (a b : ℕ) (h : ℕ → Own) (from count : ℕ) → ((i : ℕ) → i < from + count → (h i).load ≤ 65535)
-    → Small (loads_at a b (list_from from count h))
-unfolding loads_at list_from
-loads_small a b h from zero small = tt
-loads_small a b h from (suc count) small =
-    let rest = loads_small a b h (suc from) count (λ i lt. small i (omega arith)) in
-    cases (held a b (h from)) (λ e. rw e (small from (omega arith), rest)) (λ e. rw e rest)
-
 pub no_value : (kind : ℕ) (l : List ℕ) → length l ≡ 0 → aggregated kind l ≡ none
 unfolding aggregated
 no_value kind [] none-held = refl
@@ -198,35 +203,54 @@ unfolding aggregated aggregate
 least_some [] none-held small = absurd (none-held refl)
 least_some (x ∷ l) some-held small = ap (λ (v : ℕ). some v) (least_in x l small.0)
 
-pub least_value : (a b : ℕ) (h : ℕ → Own) (count : ℕ) → (length (loads_at a b (list_from 0 count h)) ≡ 0 → ⊥)
-    → ((i : ℕ) → i < count → (h i).load ≤ 65535)
-    → aggregated 2 (loads_at a b (list_from 0 count h)) ≡ some (foldr min 65535 (loads_at a b (list_from 0 count h)))
-least_value a b h count some-held small =
-    least_some (loads_at a b (list_from 0 count h)) some-held (loads_small a b h 0 count (λ i lt. small i (omega arith)))
+-- loads that are taken up one by one are of 16 bits
+loads_small : (Take : ℕ → ℕ → ℕ → Type 0) (start a b : ℕ) (rs : List Own) (x r : ℕ)
+    → FoldsTo (TakesUp Take) x (loads_or start a b rs) r → Small (loads_at a b rs)
+unfolding loads_or loads_at
+loads_small Take start a b [] x r end = tt
+loads_small Take start a b (own ∷ rs) x r (y, (small, taken), rest) =
+    let others = loads_small Take start a b rs y r rest in
+    cases (held a b own) (λ e. rw e ((rw e at small), others)) (λ e. rw e others)
+
+pub least_found : (a b : ℕ) (rs : List Own) (r : ℕ) (Take : ℕ → ℕ → ℕ → Type 0)
+    → FoldsTo (TakesUp Take) 65535 (loads_or 65535 a b rs) r → ((x y z : ℕ) → Take x y z → z ≡ min x y) → r ≤ 65535
+    → (length (loads_at a b rs) ≡ 0 → ⊥) → aggregated 2 (loads_at a b rs) ≡ some r
+least_found a b rs r Take found takes fits some-held =
+    let least : min r 65535 ≡ min 65535 (foldr min 65535 (loads_at a b rs)) =
+    folded min 65535 (λ x y z. omega arith) least_start _ (λ x y z taken. takes x y z taken.1) a b rs 65535 r found in
+    least_some (loads_at a b rs) some-held (loads_small Take 65535 a b rs 65535 r found)
+    ∙ ap (λ (v : ℕ). some v) (omega (arith, least, least_start (loads_at a b rs)))
 
 -- the greatest, from 0 on up
 greatest_in : (x : ℕ) (l : List ℕ) → foldr max x l ≡ max x (foldr max 0 l)
 greatest_in x [] = omega arith
 greatest_in x (y ∷ l) = omega (arith, greatest_in x l)
 
-pub greatest_value : (l : List ℕ) → (length l ≡ 0 → ⊥) → aggregated 3 l ≡ some (foldr max 0 l)
+greatest_some : (l : List ℕ) → (length l ≡ 0 → ⊥) → aggregated 3 l ≡ some (foldr max 0 l)
 unfolding aggregated aggregate
-greatest_value [] none-held = absurd (none-held refl)
-greatest_value (x ∷ l) some-held = ap (λ (v : ℕ). some v) (greatest_in x l)
+greatest_some [] none-held = absurd (none-held refl)
+greatest_some (x ∷ l) some-held = ap (λ (v : ℕ). some v) (greatest_in x l)
+
+pub greatest_found : (a b : ℕ) (rs : List Own) (r : ℕ) (Take : ℕ → ℕ → ℕ → Type 0)
+    → FoldsTo (TakesUp Take) 0 (loads_or 0 a b rs) r → ((x y z : ℕ) → Take x y z → z ≡ max x y)
+    → (length (loads_at a b rs) ≡ 0 → ⊥) → aggregated 3 (loads_at a b rs) ≡ some r
+greatest_found a b rs r Take found takes some-held =
+    let greatest : max r 0 ≡ max 0 (foldr max 0 (loads_at a b rs)) =
+    folded max 0 (λ x y z. omega arith) greatest_start _ (λ x y z taken. takes x y z taken.1) a b rs 0 r found in
+    greatest_some (loads_at a b rs) some-held ∙ ap (λ (v : ℕ). some v) (omega (arith, greatest))
 
 pub mean_value : (l : List ℕ) → (length l ≡ 0 → ⊥) → aggregated 4 l ≡ some (100 * sum l / length l)
 unfolding aggregated aggregate sum
 mean_value [] none-held = absurd (none-held refl)
 mean_value (x ∷ l) some-held = refl
 
--- other kinds have no value of their own
-pub other_value : (kind : ℕ) (l : List ℕ) → (length l ≡ 0 → ⊥) → (kind ≡ 0 → ⊥) → (kind ≡ 1 → ⊥) → (kind ≡ 2 → ⊥)
-    → (kind ≡ 3 → ⊥) → (kind ≡ 4 → ⊥) → aggregated kind l ≡ some 0
+-- what is no kind of the paper's has no value of its own
+pub other_value : (kind : ℕ) (l : List ℕ) → (length l ≡ 0 → ⊥) → 4 < kind → aggregated kind l ≡ some 0
 unfolding aggregated aggregate
-other_value kind [] none-held a b c d e = absurd (none-held refl)
-other_value zero (x ∷ l) some-held a b c d e = absurd (a refl)
-other_value (suc zero) (x ∷ l) some-held a b c d e = absurd (b refl)
-other_value (suc (suc zero)) (x ∷ l) some-held a b c d e = absurd (c refl)
-other_value (suc (suc (suc zero))) (x ∷ l) some-held a b c d e = absurd (d refl)
-other_value (suc (suc (suc (suc zero)))) (x ∷ l) some-held a b c d e = absurd (e refl)
-other_value (suc (suc (suc (suc (suc kind))))) (x ∷ l) some-held a b c d e = refl
+other_value kind [] none-held above = absurd (none-held refl)
+other_value zero (x ∷ l) some-held above = absurd (omega (arith, above))
+other_value (suc zero) (x ∷ l) some-held above = absurd (omega (arith, above))
+other_value (suc (suc zero)) (x ∷ l) some-held above = absurd (omega (arith, above))
+other_value (suc (suc (suc zero))) (x ∷ l) some-held above = absurd (omega (arith, above))
+other_value (suc (suc (suc (suc zero)))) (x ∷ l) some-held above = absurd (omega (arith, above))
+other_value (suc (suc (suc (suc (suc kind))))) (x ∷ l) some-held above = refl

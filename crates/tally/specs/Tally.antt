@@ -1,24 +1,25 @@
 -- The records of one group, and what they say of the frames a to b: the last frame before their next event behind frame a, the
 -- loads of those that meet the frames, and the value of one frame.
-use Rattle.std.specs.Prelude.{ℕ, ◌-◌, ◌*◌, ◌≤◌, min, Bool, ◌&&◌, cond, List, [], ◌∷◌, ◌≡◌, leb, ltb, eqb, length, get_or}
+use Rattle.std.specs.Prelude.{ℕ, ◌-◌, ◌*◌, ◌≤◌, min, Bool, ◌&&◌, cond, List, [], ◌∷◌, ◌≡◌, map, leb, ltb, eqb, length, get_or}
 use Rattle.std.proofs.Math.Option.{Option}
 use Rattle.model.specs.Common.{list_from}
 use Rattle.model.specs.Spans.{Span}
 use Rattle.model.specs.Log.{sum, aggregated}
 use Rattle.tally.specs.declared.Own.{Own}
 use Rattle.tally.specs.declared.Here.{Here}
+use Rattle.tally.specs.declared.Group.{Group}
 
--- record i of the group, from a list for each field
-abbrev pub own_in : List ℕ → List ℕ → List ℕ → ℕ → Own
-own_in firsts lasts loads i = record { first = get_or firsts i 0; last = get_or lasts i 0; load = get_or loads i 0 }
+-- record i, from a list for each field
+abbrev pub own_from : List ℕ → List ℕ → List ℕ → ℕ → Own
+own_from firsts lasts loads i = record { first = get_or firsts i 0; last = get_or lasts i 0; load = get_or loads i 0 }
 
--- the first `count` of them
-abbrev pub owns_in : List ℕ → List ℕ → List ℕ → ℕ → List Own
-owns_in firsts lasts loads count = list_from 0 count (own_in firsts lasts loads)
+-- record i of the group in hand
+abbrev pub own_in : Group → ℕ → Own
+own_in g = own_from g.firsts g.lasts g.loads
 
--- each list has 128 places
-abbrev pub Sized : List ℕ → List ℕ → List ℕ → Type 0
-Sized firsts lasts loads = (length firsts ≡ 128) × (length lasts ≡ 128) × (length loads ≡ 128)
+-- all of them
+abbrev pub owns_in : Group → List Own
+owns_in g = list_from 0 g.count (own_in g)
 
 -- the records of group g
 unfoldable pub only_of : ℕ → List (Span ℕ) → List Own
@@ -36,6 +37,14 @@ held a b r = leb r.first b && leb a r.last
 unfoldable pub loads_at : ℕ → ℕ → List Own → List ℕ
 loads_at a b [] = []
 loads_at a b (r ∷ rs) = cond (held a b r) (r.load ∷ loads_at a b rs) (loads_at a b rs)
+
+-- the loads of all, with a start in place of that of each record that does not
+unfoldable pub loads_or : ℕ → ℕ → ℕ → List Own → List ℕ
+loads_or start a b rs = map (λ r. cond (held a b r) r.load start) rs
+
+-- a step that takes up a load, which is of 16 bits
+abbrev pub TakesUp : (ℕ → ℕ → ℕ → Type 0) → ℕ → ℕ → ℕ → Type 0
+TakesUp Takes found load next = (load ≤ 65535) × Takes found load next
 
 -- the last frame up to which the record holds each frame from a on, or holds none of them
 unfoldable pub stop_of : ℕ → Own → ℕ

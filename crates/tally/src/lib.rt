@@ -4,13 +4,9 @@
 // over them then have no branch, and the compiler works on eight records at a time. Arrays are lent and never copied.
 #![tactic(auto)]
 
-ghost use Rattle.std.specs.Prelude.{◌≡◌, [], ◌∷◌, ◌++◌, cond, ◌+◌, ◌*◌, ◌/◌, ◌<◌, ◌≤◌, min, max, length};
-ghost use Rattle.std.proofs.Math.Option.{some};
-ghost use Rattle.model.specs.Log.{aggregated};
-ghost use Rattle.model.specs.Arrays.{spans_in};
-ghost use Rattle.tally.specs.Tally.{own_in, owns_in, Sized, only_of, held, loads_at, stop_of, Survey};
+ghost use Rattle.std.specs.Prelude.{◌≡◌, ◌*◌, ◌/◌, ◌≤◌};
 
-use model::MOST_RECORDS;
+use model::{Kind, MOST_RECORDS, Records};
 
 // A record of the group in hand.
 #[derive(Clone, Copy)]
@@ -29,205 +25,164 @@ pub struct Here {
     pub sum: u32,
 }
 
-// A frame, a load or a count as a wider number.
-pub fn wide(x: u16) -> u32
-    ensures { result ≡ x }
-{
-    x as u32
+// The records of one group, field by field. Places past the count hold what was there before.
+#[derive(Clone, Copy)]
+pub struct Group {
+    pub firsts: [u16; MOST_RECORDS],
+    pub lasts: [u16; MOST_RECORDS],
+    pub loads: [u16; MOST_RECORDS],
+    pub count: usize,
+    pub ghost has_places: { count ≤ 128 },
 }
 
-// The lower of two numbers.
-fn lower(x: u16, y: u16) -> u16
-    ensures { result ≡ min x y }
-{
-    if x < y { x } else { y }
-}
+impl Own {
+    ghost use Rattle.std.specs.Prelude.{◌≡◌};
+    ghost use Rattle.tally.specs.Tally.{held, stop_of};
 
-// The higher of two numbers.
-fn higher(x: u16, y: u16) -> u16
-    ensures { result ≡ max x y }
-{
-    if x < y { y } else { x }
-}
+    // Whether the record holds some frame of a to b.
+    fn meets(self, a: u16, b: u16) -> bool
+        ensures { result ≡ held a b self }
+    {
+        (self.first <= b) & (a <= self.last)
+    }
 
-// The first number where the test holds, else the second.
-fn pick(test: bool, x: u16, y: u16) -> u16
-    ensures { result ≡ cond test x y }
-{
-    if test { x } else { y }
-}
-
-// The record at a place.
-fn record_at<'a>(
-    firsts: &'a [u16; MOST_RECORDS],
-    lasts: &'a [u16; MOST_RECORDS],
-    loads: &'a [u16; MOST_RECORDS],
-    index: usize,
-) -> Own
-    requires { index < 128 }
-    ensures { result ≡ own_in firsts.now lasts.now loads.now index }
-{
-    Own {
-        first: firsts[index],
-        last: lasts[index],
-        load: loads[index],
+    // The last frame up to which the record holds each frame from a on, or holds none of them.
+    fn stop(self, a: u16) -> u16
+        ensures { result ≡ stop_of a self }
+    {
+        if a < self.first {
+            return self.first - 1;
+        }
+        if a <= self.last {
+            return self.last;
+        }
+        u16::MAX
     }
 }
 
-// Puts a record behind those of the group where it is one of them, and tells how many they are then.
-fn keep(
-    own_firsts: &mut [u16; MOST_RECORDS],
-    own_lasts: &mut [u16; MOST_RECORDS],
-    own_loads: &mut [u16; MOST_RECORDS],
-    own: usize,
-    record: Own,
-    chosen: bool,
-) -> usize
-    requires { (own < 128) × Sized own_firsts.old own_lasts.old own_loads.old }
-    ensures upper_bound { (result ≤ own + 1) × Sized own_firsts.new own_lasts.new own_loads.new }
-    ensures result_after { owns_in own_firsts.new own_lasts.new own_loads.new result ≡ owns_in own_firsts.old own_lasts.old own_loads.old own ++ cond chosen («record» ∷ []) [] }
-{
-    if chosen {
-        own_firsts[own] = record.first;
-        own_lasts[own] = record.last;
-        own_loads[own] = record.load;
-        return own + 1;
-    }
-    own
-}
+impl Group {
+    ghost use Rattle.std.specs.Prelude.{◌≡◌, [], ◌∷◌, ◌++◌, ◌+◌, ◌<◌, ◌≤◌, length};
+    ghost use Rattle.std.specs.List.{FoldsTo};
+    ghost use Rattle.std.proofs.Math.Option.{some};
+    ghost use Rattle.model.specs.Log.{aggregated};
+    ghost use Rattle.model.specs.Calls.{kind_number};
+    ghost use Rattle.model.specs.Arrays.{records_in};
+    ghost use Rattle.tally.specs.Tally.{own_in, owns_in, only_of, loads_at, loads_or, TakesUp, Survey};
 
-// Puts the records of a group side by side, and tells how many they are.
-pub fn select<'a>(
-    groups: &'a [u8; MOST_RECORDS],
-    firsts: &'a [u16; MOST_RECORDS],
-    lasts: &'a [u16; MOST_RECORDS],
-    loads: &'a [u16; MOST_RECORDS],
-    count: usize,
-    group: u8,
-    own_firsts: &mut [u16; MOST_RECORDS],
-    own_lasts: &mut [u16; MOST_RECORDS],
-    own_loads: &mut [u16; MOST_RECORDS],
-) -> usize
-    requires { (count ≤ 128) × Sized own_firsts.old own_lasts.old own_loads.old }
-    ensures upper_bound { (result ≤ 128) × Sized own_firsts.new own_lasts.new own_loads.new }
-    ensures result_after { owns_in own_firsts.new own_lasts.new own_loads.new result ≡ only_of group (spans_in groups.now firsts.now lasts.now loads.now count) }
-{
-    let mut own: usize = 0;
-    let mut index: usize = 0;
-    while index < count {
-        let record = record_at(firsts, lasts, loads, index);
-        own = keep(
-            own_firsts,
-            own_lasts,
-            own_loads,
-            own,
-            record,
-            groups[index] == group,
-        );
-        index += 1;
+    // No records.
+    pub fn new() -> Group
+        ensures { owns_in result ≡ [] }
+    {
+        Group {
+            firsts: [0; MOST_RECORDS],
+            lasts: [0; MOST_RECORDS],
+            loads: [0; MOST_RECORDS],
+            count: 0,
+        }
     }
-    own
-}
 
-// Whether a record holds some frame of a to b.
-fn holds(record: Own, a: u16, b: u16) -> bool
-    ensures { result ≡ held a b «record» }
-{
-    (record.first <= b) & (a <= record.last)
-}
+    // The record at a place.
+    fn record_at(&self, index: usize) -> Own
+        requires { index < 128 }
+        ensures { result ≡ own_in self.now index }
+    {
+        Own {
+            first: self.firsts[index],
+            last: self.lasts[index],
+            load: self.loads[index],
+        }
+    }
 
-// The last frame up to which a record holds each frame from a on, or holds none of them.
-fn stop_of(record: Own, a: u16) -> u16
-    ensures { result ≡ stop_of a «record» }
-{
-    if a < record.first {
-        return record.first - 1;
+    // Puts a record behind the others.
+    fn push(&mut self, record: Own)
+        requires { self.old.count < 128 }
+        ensures counted { self.new.count ≡ self.old.count + 1 }
+        ensures put { owns_in self.new ≡ owns_in self.old ++ «record» ∷ [] }
+    {
+        self.firsts[self.count] = record.first;
+        self.lasts[self.count] = record.last;
+        self.loads[self.count] = record.load;
+        self.count += 1;
     }
-    if a <= record.last {
-        return record.last;
-    }
-    65535
-}
 
-// The last frame before the next event behind frame a, and the count and sum of the records that meet the frames a to b. The sum
-// is kept as those of the loads' lower and upper bytes, which both fit 16 bits.
-pub fn survey<'a>(
-    firsts: &'a [u16; MOST_RECORDS],
-    lasts: &'a [u16; MOST_RECORDS],
-    loads: &'a [u16; MOST_RECORDS],
-    own: usize,
-    a: u16,
-    b: u16,
-) -> Here
-    requires { own ≤ 128 }
-    ensures { Survey a b (owns_in firsts.now lasts.now loads.now own) result }
-{
-    let mut stop: u16 = 65535;
-    let mut count: u16 = 0;
-    let mut low: u16 = 0;
-    let mut high: u16 = 0;
-    let mut index: usize = 0;
-    while index < own {
-        let record = record_at(firsts, lasts, loads, index);
-        let held = holds(record, a, b);
-        let load = pick(held, record.load, 0);
-        stop = lower(stop, stop_of(record, a));
-        count += held as u16;
-        low += load % 256;
-        high += load / 256;
-        index += 1;
+    // Puts the records of a group in the places of those that were here.
+    pub fn select(&mut self, records: &Records, group: u8)
+        requires { records.now.count ≤ 128 }
+        ensures { owns_in self.new ≡ only_of group (records_in records.now) }
+    {
+        self.count = 0;
+        for index in 0..records.count {
+            if records.groups[index] == group {
+                self.push(Own {
+                    first: records.firsts[index],
+                    last: records.lasts[index],
+                    load: records.loads[index],
+                });
+            }
+        }
     }
-    Here {
-        stop,
-        count,
-        sum: wide(low) + 256 * wide(high),
-    }
-}
 
-// The least load of the records that meet the frames a to b, where some record does.
-fn least<'a>(
-    firsts: &'a [u16; MOST_RECORDS],
-    lasts: &'a [u16; MOST_RECORDS],
-    loads: &'a [u16; MOST_RECORDS],
-    own: usize,
-    a: u16,
-    b: u16,
-) -> u16
-    requires own_bound { own ≤ 128 }
-    requires fact { length (loads_at a b (owns_in firsts.now lasts.now loads.now own)) ≡ 0 → ⊥ }
-    ensures { aggregated 2 (loads_at a b (owns_in firsts.now lasts.now loads.now own)) ≡ some result }
-{
-    let mut found: u16 = 65535;
-    let mut index: usize = 0;
-    while index < own {
-        let record = record_at(firsts, lasts, loads, index);
-        found = lower(found, pick(holds(record, a, b), record.load, 65535));
-        index += 1;
+    // The last frame before the next event behind frame a, and the count and sum of the records that meet the frames a to b. The
+    // sum is kept as those of the loads' lower and upper bytes, which both fit 16 bits.
+    // The stretch is two frames and no struct: the definition of what a record meets takes two.
+    pub fn survey(&self, a: u16, b: u16) -> Here
+        ensures { Survey a b (owns_in self.now) result }
+    {
+        let mut stop = u16::MAX;
+        let mut count: u16 = 0;
+        let mut low: u16 = 0;
+        let mut high: u16 = 0;
+        // by index: three arrays are read at once, eight records at a time
+        for index in 0..self.count {
+            let record = self.record_at(index);
+            let met = record.meets(a, b);
+            let load = if met { record.load } else { 0 };
+            stop = stop.min(record.stop(a));
+            count += u16::from(met);
+            low += load % 256;
+            high += load / 256;
+        }
+        Here {
+            stop,
+            count,
+            sum: u32::from(low) + 256 * u32::from(high),
+        }
     }
-    found
-}
 
-// The greatest load of the records that meet the frames a to b, where some record does.
-fn greatest<'a>(
-    firsts: &'a [u16; MOST_RECORDS],
-    lasts: &'a [u16; MOST_RECORDS],
-    loads: &'a [u16; MOST_RECORDS],
-    own: usize,
-    a: u16,
-    b: u16,
-) -> u16
-    requires own_bound { own ≤ 128 }
-    requires fact { length (loads_at a b (owns_in firsts.now lasts.now loads.now own)) ≡ 0 → ⊥ }
-    ensures { aggregated 3 (loads_at a b (owns_in firsts.now lasts.now loads.now own)) ≡ some result }
-{
-    let mut found: u16 = 0;
-    let mut index: usize = 0;
-    while index < own {
-        let record = record_at(firsts, lasts, loads, index);
-        found = higher(found, pick(holds(record, a, b), record.load, 0));
-        index += 1;
+    // What the loads of the records that meet the frames a to b come to, taken up one by one from a start that changes nothing.
+    fn fold<F: Fn(u16, u16) -> u16>(&self, a: u16, b: u16, start: u16, take: F) -> u16
+        requires { F.IsAlwaysCallable take }
+        ensures { FoldsTo (TakesUp (F.post take)) start (loads_or start a b (owns_in self.now)) result }
+    {
+        let mut found = start;
+        for index in 0..self.count {
+            let record = self.record_at(index);
+            let load = if record.meets(a, b) {
+                record.load
+            } else {
+                start
+            };
+            found = take(found, load);
+        }
+        found
     }
-    found
+
+    // The value of the frames a to b by the kind, where some record meets them.
+    pub fn value_at(&self, kind: Kind, here: Here, a: u16, b: u16) -> u32
+        requires surveyed { Survey a b (owns_in self.now) here }
+        requires met { length (loads_at a b (owns_in self.now)) ≡ 0 → ⊥ }
+        ensures { aggregated (kind_number kind) (loads_at a b (owns_in self.now)) ≡ some result }
+    {
+        match kind {
+            Kind::Sum => here.sum,
+            Kind::Count => u32::from(here.count),
+            Kind::Least => u32::from(self.fold(a, b, u16::MAX, |x, y| x.min(y))),
+            Kind::Greatest => u32::from(self.fold(a, b, 0, |x, y| x.max(y))),
+            Kind::Mean => mean(here.sum, u32::from(here.count)),
+            // no kind of the paper's: the definition gives 0
+            Kind::Other(_) => 0,
+        }
+    }
 }
 
 // The mean of some loads in hundredths, rounded down, from their sum and their count.
@@ -236,30 +191,4 @@ fn mean(sum: u32, count: u32) -> u32
     ensures { result ≡ 100 * sum / count }
 {
     (100 * sum) / count
-}
-
-// The value of the frames a to b by the kind, where some record meets them.
-pub fn value_at<'a>(
-    kind: u8,
-    here: Here,
-    firsts: &'a [u16; MOST_RECORDS],
-    lasts: &'a [u16; MOST_RECORDS],
-    loads: &'a [u16; MOST_RECORDS],
-    own: usize,
-    a: u16,
-    b: u16,
-) -> u32
-    requires own_bound { own ≤ 128 }
-    requires survey { Survey a b (owns_in firsts.now lasts.now loads.now own) here }
-    requires fact { length (loads_at a b (owns_in firsts.now lasts.now loads.now own)) ≡ 0 → ⊥ }
-    ensures { aggregated kind (loads_at a b (owns_in firsts.now lasts.now loads.now own)) ≡ some result }
-{
-    match kind {
-        0 => here.sum,
-        1 => wide(here.count),
-        2 => wide(least(firsts, lasts, loads, own, a, b)),
-        3 => wide(greatest(firsts, lasts, loads, own, a, b)),
-        4 => mean(here.sum, wide(here.count)),
-        _ => 0,
-    }
 }

@@ -1,26 +1,19 @@
 -- How long the texts are: every answer of at most 64 rows fits its room. Assumes nothing.
-use Prim.Native.Nat.{ℕ, zero, suc, ◌+◌, ◌*◌, ◌^◌, ◌≤◌, ◌<◌, zero-le}
+use Prim.Native.Nat.{ℕ, zero, suc, ◌+◌, ◌*◌, ◌≤◌, ◌<◌, zero-le}
 use mathlib.Core.Path.{◌≡◌}
 use mathlib.Core.List.{List, [], ◌∷◌}
 use native.Mathlib.Omega.{arith}
 use lib.ListN.{length, get_or, length-append}
 use Rattle.model.specs.Common.{list_from}
 use Rattle.model.specs.Spans.{Span, nowhere}
-use Rattle.model.specs.Calls.{row_span, row_of_span}
+use Rattle.model.specs.Calls.{row_span, row_of_span, counts_in}
 use Rattle.model.specs.Arrays.{rows_in}
 use Rattle.model.specs.declared.Row.{Row}
+use Rattle.model.specs.declared.Written.{Written}
 use Rattle.text.specs.Text.{decimal, number_line, refusal_text, row_text, rows_text, answer_text}
 use Rattle.text.specs.Put.{Room, answer_room, accepted_text}
-use Rattle.text.proofs.Digits.{length_digits, length_digits_most}
+use Rattle.text.proofs.Digits.{length_decimal, length_decimal_most}
 use Rattle.text.proofs.Widths.{Narrow}
-
-length_decimal : (d n : ℕ) → n < 10 ^ suc d → length (decimal n) ≤ suc d
-unfolding decimal
-length_decimal d n below = length_digits 20 d n below
-
-length_decimal_most : (n : ℕ) → length (decimal n) ≤ 20
-unfolding decimal
-length_decimal_most n = length_digits_most 20 n
 
 length_line : (n : ℕ) → length (number_line n []) ≡ length (decimal n) + 1
 unfolding number_line
@@ -41,10 +34,10 @@ length_row r narrow =
       length_line_more r.first r.last (r.value ∷ []),
       length_line_more r.last r.value [],
       length_line r.value,
-      length_decimal 2 r.group (omega arith),
-      length_decimal 4 r.first (omega arith),
-      length_decimal 4 r.last (omega arith),
-      length_decimal 9 r.value (omega arith),
+      length_decimal 3 r.group (omega arith) (omega arith) (omega arith),
+      length_decimal 5 r.first (omega arith) (omega arith) (omega arith),
+      length_decimal 5 r.last (omega arith) (omega arith) (omega arith),
+      length_decimal 10 r.value (omega arith) (omega arith) (omega arith),
     )
 
 length_rows : (i count : ℕ) (row : ℕ → Span ℕ) → ((j : ℕ) → j < i + count → length (row_text (row j)) ≤ 32)
@@ -59,21 +52,21 @@ length_rows i (suc count) row short =
       length_rows (suc i) count row (λ j below. short j (omega arith)),
     )
 
-length_accepted : (rows : List Row) (count error weighed : ℕ) → ((i : ℕ) (r : Row) → i < 64 → Narrow (get_or rows i r))
-    → count ≤ 64 → length (accepted_text rows count error weighed) ≤ answer_room
-unfolding accepted_text answer_text rows_in
-length_accepted rows count error weighed narrow most =
+length_accepted : (rows : List Row) (w : Written) → ((i : ℕ) (r : Row) → i < 64 → Narrow (get_or rows i r))
+    → w.rows ≤ 64 → length (accepted_text rows w) ≤ answer_room
+unfolding accepted_text answer_text counts_in rows_in
+length_accepted rows w narrow most =
     let row : ℕ → Span ℕ = λ i. row_span (get_or rows i (row_of_span nowhere)) in
     omega (
       arith,
-      length-append (number_line count (error ∷ weighed ∷ [])) (rows_text (list_from 0 count row)),
-      length_line_more count error (weighed ∷ []),
-      length_line_more error weighed [],
-      length_line weighed,
-      length_decimal_most count,
-      length_decimal_most error,
-      length_decimal_most weighed,
-      length_rows 0 count row (λ j below. length_row _ (narrow j (row_of_span nowhere) (omega arith))),
+      length-append (number_line w.rows (w.error ∷ w.weighed ∷ [])) (rows_text (list_from 0 w.rows row)),
+      length_line_more w.rows w.error (w.weighed ∷ []),
+      length_line_more w.error w.weighed [],
+      length_line w.weighed,
+      length_decimal_most w.rows,
+      length_decimal_most w.error,
+      length_decimal_most w.weighed,
+      length_rows 0 w.rows row (λ j below. length_row _ (narrow j (row_of_span nowhere) (omega arith))),
     )
 
 length_refusal : (number index : ℕ) → length (refusal_text number index) ≤ answer_room
@@ -89,10 +82,10 @@ length_refusal number index =
 
 -- a buffer of the answer's room has room for either case
 module _ (out : List ℕ) where
-  pub room_accepted : (rows : List Row) (count error weighed : ℕ) → ((i : ℕ) (r : Row) → i < 64 → Narrow (get_or rows i r))
-      → (count ≤ 64) × (answer_room ≤ length out) → Room out 0 (accepted_text rows count error weighed)
-  room_accepted rows count error weighed narrow pre =
-      record { fits = omega (arith, length_accepted rows count error weighed narrow pre.0) }
+  pub room_accepted : (rows : List Row) (w : Written) → ((i : ℕ) (r : Row) → i < 64 → Narrow (get_or rows i r))
+      → (w.rows ≤ 64) × (answer_room ≤ length out) → Room out 0 (accepted_text rows w)
+  room_accepted rows w narrow pre =
+      record { fits = omega (arith, length_accepted rows w narrow pre.0) }
 
   pub room_refusal : (number index : ℕ) → answer_room ≤ length out → Room out 0 (refusal_text number index)
   room_refusal number index room = record { fits = omega (arith, length_refusal number index) }

@@ -1,9 +1,10 @@
 -- Bytes put into a lent buffer from a place on, and the room that an answer's text needs.
 use Rattle.std.specs.Prelude.{ℕ, suc, ◌+◌, ◌*◌, ◌≤◌, ◌≡◌, List, [], ◌∷◌, length, set}
 use Rattle.model.specs.Questions.{Outcome, refused, accepted}
-use Rattle.model.specs.Calls.{Counts}
+use Rattle.model.specs.Calls.{Counts, counts_in}
 use Rattle.model.specs.Arrays.{rows_in}
 use Rattle.model.specs.declared.Row.{Row}
+use Rattle.model.specs.declared.Written.{Written}
 use Rattle.text.specs.Text.{answer_text}
 
 -- a buffer with these bytes from place `at` on
@@ -26,9 +27,8 @@ row_count (refused number index) = 0
 row_count (accepted c) = c.rows
 
 -- the text of an accepted query, with the first rows of an array as its rows
-unfoldable pub accepted_text : List Row → ℕ → ℕ → ℕ → List ℕ
-accepted_text rows count error weighed =
-    answer_text (accepted (record { rows = count; error = error; weighed = weighed })) (rows_in rows count)
+unfoldable pub accepted_text : List Row → Written → List ℕ
+accepted_text rows written = answer_text (accepted (counts_in written)) (rows_in rows written.rows)
 
 -- the places in which every answer of at most 64 rows fits: 64 for its first line, 32 for the line of a row
 abbrev pub answer_room : ℕ

@@ -3,13 +3,13 @@ use Prim.Native.Nat.{ℕ, zero, suc, ◌+◌, ◌-◌, ◌*◌, ◌%◌, ◌≤�
 use mathlib.Core.Bool.{Bool, true, false, not, cond, ◌&&◌}
 use mathlib.Core.List.{List, [], ◌∷◌, ◌++◌, append_assoc, append-nil}
 use mathlib.Core.Path.{◌≡◌, refl, sym, ap, ap₂, ◌∙◌}
-use native.Mathlib.Nat.{add-suc}
+use native.Mathlib.Nat.{add-zero, add-suc}
 use native.Mathlib.Numerals.{add-one}
 use native.Mathlib.Omega.{arith}
 use borrow.Author.Tests.{eqb-true, eqb-false, eq-eqb, ne_eqb}
 use borrow.Rule.Slice.PartMut.{put_mid}
 use lib.Dec.{eqb}
-use lib.ListN.{length, get_or, set, take, drop, replicate, length-replicate, length-set, length-drop, length-append}
+use lib.ListN.{length, get_or, set, take, drop, replicate, take-append-drop, length-replicate, length-set, length-drop, length-append}
 use lib.Seq.{take_at, drop-drop, drop-append-add}
 use Rattle.model.specs.Common.{every, list_from, joined, number_at}
 use Rattle.model.specs.Log.{record_length, record_part, twins, is_first, firsts_of}
@@ -19,7 +19,7 @@ use Rattle.theory.proofs.Lists.{list_from_snoc, after_set, copied_part}
 use Rattle.theory.proofs.Every.{every_at, every_of, every_same}
 use Rattle.theory.proofs.Twins.{length_part}
 use Rattle.theory.proofs.Asking.{answer}
-use Rattle.twins.specs.Keys.{Begun, key_of, new_in, Noted, kept_of}
+use Rattle.twins.specs.Keys.{Begun, key_of, new_in, Noted}
 
 -- ---- tests of numbers
 
@@ -152,6 +152,10 @@ joined_append h (x ∷ xs) ys = rw (joined_append h xs ys) (sym (append_assoc (h
 unfoldable pub kept_so_far : List ℕ → ℕ → List ℕ
 kept_so_far log count = joined (record_part log) (firsts_of log count)
 
+-- the record with index i, or nothing
+unfoldable kept_of : List ℕ → ℕ → Bool → List ℕ
+kept_of log i chosen = cond chosen (record_part log i) []
+
 -- one record more, or none
 kept_more : (log : List ℕ) (count : ℕ) → kept_so_far log (count + 1) ≡ kept_so_far log count ++ kept_of log count (is_first log count)
 unfolding kept_so_far firsts_of kept_of joined
@@ -203,7 +207,7 @@ module _ (log : List ℕ) (count : ℕ) (was buffer : List ℕ) (at : ℕ) (befo
       ∙ omega (arith, before.ended, before.few, length-drop at was)
 
   -- a record more, or none
-  pub written_more : 9 * count + 9 ≤ length log → (chosen : Bool) → chosen ≡ is_first log count → (next : ℕ) (after : List ℕ)
+  written_more : 9 * count + 9 ≤ length log → (chosen : Bool) → chosen ≡ is_first log count → (next : ℕ) (after : List ℕ)
       → next ≡ at + length (kept_of log count chosen)
       → after ≡ take at buffer ++ kept_of log count chosen ++ drop next buffer
       → Written log (count + 1) was after next
@@ -220,3 +224,17 @@ module _ (log : List ℕ) (count : ℕ) (was buffer : List ℕ) (at : ℕ) (befo
         few = omega (arith, before.few, length_kept log count within chosen);
         written = put ∙ ap₂ {C = List ℕ} ◌++◌ (ap (λ (l : List ℕ). l ++ kept) front ∙ sym more) back;
       }
+
+  -- the record, if it is the first of its bytes
+  pub written_first : 9 * count + 9 ≤ length log → is_first log count ≡ true → (after : List ℕ)
+      → after ≡ take at buffer ++ record_part log count ++ drop (at + 9) buffer → Written log (count + 1) was after (at + 9)
+  unfolding kept_of
+  written_first within first after put =
+      written_more within true (sym first) (at + 9) after (rw (length_part log count within)) put
+
+  -- and nothing, if it is not
+  pub written_still : 9 * count + 9 ≤ length log → is_first log count ≡ false → Written log (count + 1) was buffer at
+  unfolding kept_of
+  written_still within twin =
+      written_more within false (sym twin) at buffer (sym (add-zero at))
+      (sym (ap (λ (l : List ℕ). l ++ drop at buffer) (append-nil (take at buffer)) ∙ take-append-drop at buffer))

@@ -1,7 +1,14 @@
 -- The keys of a log's records, and the places of their remainders.
-use Rattle.std.specs.Prelude.{ℕ, ◌+◌, ◌*◌, ◌%◌, ◌≤◌, ◌<◌, Bool, not, cond, List, [], ◌≡◌, eqb, length, get_or}
+use Rattle.std.specs.Prelude.{ℕ, ◌+◌, ◌*◌, ◌%◌, ◌≤◌, ◌<◌, Bool, not, List, ◌≡◌, eqb, length, get_or}
 use Rattle.model.specs.Common.{every, number_at}
-use Rattle.model.specs.Log.{record_length, record_part}
+use Rattle.model.specs.Log.{record_length}
+
+-- the record with this index, and so many records, end within these bytes
+abbrev pub HasRecord : List ℕ → ℕ → Type 0
+HasRecord bytes index = 9 * index + 9 ≤ length bytes
+
+abbrev pub HasRecords : List ℕ → ℕ → Type 0
+HasRecords bytes count = 9 * count ≤ length bytes
 
 -- each of the first `count` records begins with the first byte of a mark, whatever the second one is
 abbrev pub Begun : List ℕ → ℕ → Type 0
@@ -20,7 +27,3 @@ pub record Noted (log : List ℕ) (count : ℕ) (firsts : List ℕ) : Type 0 whe
   pub sized : length firsts ≡ 1021
   pub each : (i : ℕ) → i < count → get_or firsts (key_of log i % 1021) 0 ≡ 0 → ⊥
   pub within : (place : ℕ) → get_or firsts place 0 ≤ count
-
--- the record with index i, or nothing
-unfoldable pub kept_of : List ℕ → ℕ → Bool → List ℕ
-kept_of log i chosen = cond chosen (record_part log i) []

@@ -4,51 +4,39 @@
 #![tactic(auto)]
 
 use input::read_full;
-use model::{Bound, Query, QueryAnswer, Row, Step};
+use model::{Answer, Bound, Query, Refusal, Row, Written};
 use std::io;
 
-// Numbers with a byte between them, and the end of the line.
-fn print_two(rt: &impl Print, a: u64, b: u64) -> io::Result<()> {
-    println!(rt; "{a} {b}")
+fn print_refusal(rt: &impl Print, refusal: Refusal) -> io::Result<()> {
+    println!(rt; "{} {}", u8::from(refusal.question), refusal.index)
 }
 
-fn print_three(rt: &impl Print, a: u64, b: u64, c: u64) -> io::Result<()> {
-    println!(rt; "{a} {b} {c}")
-}
-
+// Printed here, since the host prints text and no more is promised of it.
 fn print_row(rt: &impl Print, row: Row) -> io::Result<()> {
     println!(rt; "{} {} {} {}", row.group, row.first, row.last, row.value)
 }
 
-fn print_answer(rt: &impl Print, answer: QueryAnswer) -> io::Result<()> {
+fn print_answer(rt: &impl Print, answer: Answer<Written>) -> io::Result<()> {
     match answer {
-        QueryAnswer::Written {
-            rows,
-            error,
-            weighed,
-        } => print_three(rt, rows as u64, error, weighed),
-        QueryAnswer::Refused(r) => print_two(rt, r.question as u64, r.index as u64),
+        Ok(written) => { println!(rt; "{} {} {}", written.rows, written.error, written.weighed) }
+        Err(refusal) => print_refusal(rt, refusal),
     }
 }
 
 // What a walker over the slot answers after so many steps.
 fn print_walked(rt: &impl Print, slot: &[u8], steps: usize) -> io::Result<()> {
-    let step = lent::walker::walked(slot, steps);
-    match step {
-        Step::Found(row) => print_row(rt, row),
-        Step::End => println!(rt; "end"),
-        Step::Refused(r) => print_two(rt, r.question as u64, r.index as u64),
+    match lent::walker::walked(slot, steps) {
+        Ok(Some(row)) => print_row(rt, row),
+        Ok(None) => println!(rt; "end"),
+        Err(refusal) => print_refusal(rt, refusal),
     }
 }
 
 // The answer for a log by three scenes, and the walker's after 0 to 4 steps.
 fn print_scenes(rt: &impl Print, log: &[u8]) -> io::Result<()> {
     let mut slot = common::no_slot();
-    let firsts = [0u16, 2, 7];
-    let lasts = [1u16, 6, 65535];
-    let query = rules::scenes(0, &firsts, &lasts);
-    let answer = pacer::query(query, log, &mut slot);
-    print_answer(rt, answer)?;
+    let query = rules::scenes(0, &[0, 2, 7], &[1, 6, 65535]);
+    print_answer(rt, pacer::query(query, log, &mut slot))?;
     for steps in 0..5 {
         print_walked(rt, &slot, steps)?;
     }
@@ -66,10 +54,13 @@ fn main(rt: HostRuntime) -> io::Result<()> {
     };
     let log = &input[..n];
     let queried = pacer::query_and_read(query, log, &mut slot);
-    let answer = queried.answer;
-    print_answer(&rt, answer)?;
-    let reading = queried.reading;
-    for row in &reading.rows[..4] {
+    print_answer(&rt, queried.answer)?;
+    // as `report` has it, which this program has no other use for
+    let rows = match queried.reading {
+        Ok(reading) => reading.rows,
+        Err(_) => common::no_rows(),
+    };
+    for row in &rows[..4] {
         print_row(&rt, *row)?;
     }
     for steps in 0..6 {

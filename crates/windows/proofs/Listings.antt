@@ -13,7 +13,7 @@ use Rattle.model.specs.Arrays.{rows_in, row_array}
 use Rattle.model.specs.declared.Row.{Row}
 use Rattle.theory.proofs.Lists.{list_from_snoc, list_from_cong}
 use Rattle.theory.proofs.SlotLaws.{length-list_from}
-use Rattle.windows.specs.Listed.{Lists}
+use Rattle.windows.specs.Listed.{Holds}
 
 -- the first `made` rows of an array, and then those left, are all
 pub record Made (rows : List Row) (made : ℕ) (left all : List (Span ℕ)) : Type 0 where
@@ -57,17 +57,10 @@ module _ (rows : List Row) (made : ℕ) (all : List (Span ℕ)) where
             ∙ m.listed;
       }
 
-  pub made_all : Made rows made [] all → Lists (record { rows = rows; count = made }) all
+  pub made_all : Made rows made [] all → Holds (record { rows = rows; count = made }) all
   made_all m =
-      record {
-        counts = omega (arith, count_all [] m, m.few);
-        holds = λ few. sym (append-nil (rows_in rows made)) ∙ m.listed;
-      }
+      let count : made ≡ length all = omega (arith, count_all [] m) in
+      record { counts = count; few = omega (arith, m.few); holds = sym (append-nil (rows_in rows made)) ∙ m.listed }
 
-  pub made_past : (r : Span ℕ) (left : List (Span ℕ)) → Made rows made (r ∷ left) all → 64 ≤ made
-      → Lists (record { rows = rows; count = 65 }) all
-  made_past r left m full =
-      record {
-        counts = omega (arith, count_all (r ∷ left) m);
-        holds = λ few. absurd (omega (arith, count_all (r ∷ left) m));
-      }
+  pub made_past : (r : Span ℕ) (left : List (Span ℕ)) → Made rows made (r ∷ left) all → 64 ≤ made → 64 < length all
+  made_past r left m full = omega (arith, count_all (r ∷ left) m)

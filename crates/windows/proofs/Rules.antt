@@ -6,16 +6,19 @@ use mathlib.Core.Path.{◌≡◌, refl}
 use native.Mathlib.Omega.{arith}
 use lib.Dec.{leb}
 use borrow.Author.Tests.{ltb-true, leb-true}
-use Rattle.model.specs.Common.{every, is_some, list_from, joined}
+use Rattle.std.specs.Prelude.{Option, Some, None, is_some}
+use Rattle.model.specs.Common.{every, option_of, list_from, joined}
 use Rattle.model.specs.Spans.{Span, group_count}
 use Rattle.model.specs.Windows.{bound_in, beat, scene, beat_count, window_count, window_at, windows, group_rows, span_rows}
 use Rattle.model.specs.Questions.{ask, scene_known, most_scenes, scenes_known, rule_question}
+use Rattle.model.specs.declared.Bound.{Bound}
 use Rattle.model.specs.declared.Rule.{Rule}
 use Rattle.model.specs.declared.Rule.TheVariants.{Rows, Share, Every, Scenes}
 use Rattle.model.specs.declared.RuledQuery.{RuledQuery}
 use Rattle.theory.proofs.Tests as tests
+use Rattle.theory.proofs.Tests.{none≢some}
 use Rattle.theory.proofs.Every.{every_at}
-use Rattle.windows.specs.Listed.{Known, by_rule}
+use Rattle.windows.specs.Listed.{Known}
 use Rattle.windows.proofs.Beats.{beat_forward}
 
 module _ (q : RuledQuery) (length start : ℕ) (rule : q.rule ≡ Every length start) where
@@ -70,21 +73,14 @@ forward q known i lt = by q.rule refl
     by (Scenes count) e = rw (scene_at q count e i) (scene_forward q count e known i (rw (scene_count q count e) at lt))
 
 -- a bound has no windows, and so no rows by windows
-pub no_windows : (q : RuledQuery) → is_some (bound_in q.rule) ≡ true → (kind : ℕ) (rs : List (Span ℕ)) → span_rows kind rs (windows q) ≡ []
-unfolding windows window_count bound_in is_some span_rows group_rows group_count joined list_from
-no_windows q bounded kind rs = by q.rule refl
+pub no_windows : (q : RuledQuery) (bound : Option Bound) → option_of bound ≡ bound_in q.rule → is_some bound ≡ true → (kind : ℕ)
+    (rs : List (Span ℕ)) → span_rows kind rs (windows q) ≡ []
+unfolding windows window_count bound_in option_of span_rows group_rows group_count joined list_from
+no_windows q None same bounded kind rs = absurd (false≢true bounded)
+no_windows q (Some bound) same bounded kind rs = by q.rule refl
   where
     by : (r : Rule) → q.rule ≡ r → span_rows kind rs (windows q) ≡ []
     by (Rows c) e = rw e
     by (Share p) e = rw e
-    by (Every length start) e = absurd (false≢true (rw e at bounded))
-    by (Scenes count) e = absurd (false≢true (rw e at bounded))
-
--- the kind is no part of this
-pub known_by_rule : (q : RuledQuery) → Known q → Known (by_rule q.rule q.firsts q.lasts)
-unfolding rule_question
-known_by_rule q known = known
-
-pub window_by_rule : (q : RuledQuery) (i : ℕ) → window_at (by_rule q.rule q.firsts q.lasts) i ≡ window_at q i
-unfolding window_at
-window_by_rule q i = refl
+    by (Every length start) e = absurd (none≢some (rw e at same) refl)
+    by (Scenes count) e = absurd (none≢some (rw e at same) refl)

@@ -1,8 +1,7 @@
 -- `pacer_lookup` meets its contract: the fields of the lookup's answer. Assumes nothing.
-use borrow.Author.Rules.{rules}
 use mathlib.Core.Path.{ap, ◌∙◌}
 use Rattle.answers.specs.Fields.{lookup_fields}
 use Rattle.capi.proofs.pacer_lookup.Goals as goal
 
 pub returns : goal.returns
-returns c = c.of_lookup.ensures ∙ ap lookup_fields c.lookup-answer.ensures
+returns c = c.into.ensures ∙ ap lookup_fields c.lookup.ensures

@@ -1,15 +1,14 @@
 -- `pacer_lookups` meets its contract: the fields of what the many lookups say, and both lists as they leave them. Assumes nothing.
-use borrow.Author.Rules.{rules}
 use mathlib.Core.Path.{ap, ◌∙◌}
 use Rattle.answers.specs.Fields.{asked_fields}
 use Rattle.capi.proofs.pacer_lookups.Goals as goal
 
 pub returns : goal.returns
 returns c =
-    let e = c.look_up-answer.ensures in
+    let e = c.look_up.ensures in
     record {
-      says = c.of_asked.ensures ∙ ap asked_fields e.says;
+      says = c.into.ensures ∙ ap asked_fields e.says;
       found = e.found;
       flagged = e.flagged;
-      promise = (_, c.of_asked.ensures, e.promise);
+      promise = (_, c.into.ensures, e.promise);
     }

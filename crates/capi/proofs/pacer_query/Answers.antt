@@ -1,14 +1,13 @@
 -- `pacer_query` meets its contract: the fields of the query's answer, and the slot as it leaves it. Assumes nothing.
-use borrow.Author.Rules.{rules}
 use mathlib.Core.Path.{ap, ◌∙◌}
 use Rattle.answers.specs.Fields.{query_fields}
 use Rattle.capi.proofs.pacer_query.Goals as goal
 
 pub returns : goal.returns
 returns c =
-    let e = c.query_by_letter-answer.ensures in
+    let e = c.query_by_letter.ensures in
     record {
-      says = c.of_query.ensures ∙ ap query_fields e.says;
+      says = c.into.ensures ∙ ap query_fields e.says;
       holds = e.holds;
-      promise = (_, c.of_query.ensures, e.promise);
+      promise = (_, c.into.ensures, e.promise);
     }

@@ -1,14 +1,13 @@
 -- `pacer_query_scenes` meets its contract: the fields of the answer to a query by scenes, and the slot as it leaves it. Assumes nothing.
-use borrow.Author.Rules.{rules}
 use mathlib.Core.Path.{ap, ◌∙◌}
 use Rattle.answers.specs.Fields.{query_fields}
 use Rattle.capi.proofs.pacer_query_scenes.Goals as goal
 
 pub returns : goal.returns
 returns c =
-    let e = c.query_by_scenes-answer.ensures in
+    let e = c.query_by_scenes.ensures in
     record {
-      says = c.of_query.ensures ∙ ap query_fields e.says;
+      says = c.into.ensures ∙ ap query_fields e.says;
       holds = e.holds;
-      promise = (_, c.of_query.ensures, e.promise);
+      promise = (_, c.into.ensures, e.promise);
     }

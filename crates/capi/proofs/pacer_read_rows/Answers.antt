@@ -5,5 +5,5 @@ use Rattle.capi.proofs.pacer_read_rows.Goals as goal
 
 pub returns : goal.returns
 returns c =
-    let e = c.read_into-answer.ensures in
-    (c.of_read.ensures ∙ ap read_fields e.0, e.1)
+    let e = c.read_into.ensures in
+    (c.into.ensures ∙ ap read_fields e.says, e.holds)

@@ -5,5 +5,5 @@ use Rattle.capi.proofs.pacer_segments.Goals as goal
 
 pub returns : goal.returns
 returns c =
-    let e = c.segments-answer.ensures in
-    (c.of_segments.ensures ∙ ap segments_fields e.0, e.1, (_, c.of_segments.ensures, e.2))
+    let e = c.segments.ensures in
+    (c.into.ensures ∙ ap segments_fields e.says, e.holds, (_, c.into.ensures, e.promise))

@@ -1,5 +1,4 @@
 -- `pacer_write_record` meets its contract: the fields of the writer's answer, and the buffer as it leaves it. Assumes nothing.
-use borrow.Author.Rules.{rules}
 use mathlib.Core.Path.{ap, ◌∙◌}
 use Rattle.model.specs.Calls.{record_span}
 use Rattle.answers.specs.Fields.{asked_fields}
@@ -9,8 +8,8 @@ use Rattle.capi.proofs.pacer_write_record.Goals as goal
 pub returns : goal.returns
 unfolding span_of record_span
 returns c =
-    let e = c.write_record-answer.ensures in
+    let e = c.write_record.ensures in
     record {
-      says = c.of_record.ensures ∙ ap asked_fields e.says;
+      says = c.into.ensures ∙ ap asked_fields e.says;
       holds = e.holds;
     }

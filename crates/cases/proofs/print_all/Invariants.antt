@@ -1,9 +1,6 @@
--- Each case lies within the file, and the next begins behind it.
-use Rattle.std.proofs.Common.{◌≤◌, ◌-◌, length}
+-- Each case is taken off the bytes that are left.
+use Rattle.std.proofs.Common.{length}
 use Rattle.cases.proofs.print_all.Given as goal
 
-abbrev pub invariant-loop-at : goal.invariant-loop-at
-invariant-loop-at g l = l.at ≤ length l.cases
-
-abbrev pub decreases-loop-at : goal.decreases-loop-at
-decreases-loop-at g l = length l.cases - l.at
+abbrev pub decreases-loop-size : goal.decreases-loop-size
+decreases-loop-size g l = length l.rest

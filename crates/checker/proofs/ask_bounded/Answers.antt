@@ -1,15 +1,14 @@
 -- `checker::ask_bounded` meets its contract: the mark of a bound, and then what every slot is asked. Assumes nothing.
-use mathlib.Core.Path.{sym, ap, ◌∙◌}
+use mathlib.Core.Path.{sym, ◌∙◌}
 use Rattle.model.specs.Questions.{ask, outcome}
-use Rattle.model.specs.Calls.{asked_case}
+use Rattle.model.specs.Calls.{answer_case, number}
 use Rattle.model.specs.Check.{bounded_questions}
 use Rattle.checker.proofs.Asking.{marked_slot}
 use Rattle.checker.proofs.ask_bounded.Goals as goal
 
 pub returns-then-not-by_bound : goal.returns-then-not-by_bound
-unfolding bounded_questions outcome ask asked_case
-returns-then-not-by_bound c = rw (sym c.by_bound.ensures ∙ c.if-not-by_bound.true) (ap asked_case c.no.ensures)
+unfolding answer_case number bounded_questions outcome ask
+returns-then-not-by_bound c = rw (c.no.ensures, sym c.by_bound.ensures ∙ c.if-not-by_bound.true)
 
 pub returns : goal.returns
-returns c =
-    c.ask.ensures ∙ marked_slot _ c.requires (sym c.by_bound.ensures ∙ c.if-not-by_bound.false)
+returns c = c.ask.ensures ∙ marked_slot _ c.requires (sym c.by_bound.ensures ∙ c.if-not-by_bound.false)

@@ -8,4 +8,4 @@ returns-in-Rows c = rw (c.in-Rows.is, c.least_rows.ensures)
 
 pub returns-in-Share : goal.returns-in-Share
 unfolding choice_in
-returns-in-Share c = rw (c.met.ensures, c.in-Share.is)
+returns-in-Share c = rw (c.then_some.ensures, c.met.ensures, c.in-Share.is)

@@ -4,7 +4,7 @@ use Rattle.choice.proofs.covers_runs.Goals as goal
 
 pub returns-in-Rows : goal.returns-in-Rows
 unfolding covers_runs
-returns-in-Rows c = rw c.in-Rows.is
+returns-in-Rows c = rw (c.in-Rows.is, c.from.ensures)
 
 pub returns-in-Share : goal.returns-in-Share
 unfolding covers_runs

@@ -5,24 +5,21 @@ use Rattle.theory.proofs.Bounds.{mul_le}
 use Rattle.choice.specs.Bounds.{meets_in, Known}
 use Rattle.choice.proofs.met.Goals as goal
 
-pub returns-then-k-runs : goal.returns-then-k-runs
-unfolding meets_in
-returns-then-k-runs c = rw (c.in-Share.is, lt-leb _ _ c.if-k-runs.true)
-
-pub overflow_mul-result : goal.overflow_mul-result
-overflow_mul-result c = let small = c.requires.here c.if-k-runs.false in omega arith
-
-pub overflow_mul-result-in-Share : goal.overflow_mul-result-in-Share
+pub overflow_mul-result-then-runs-k : goal.overflow_mul-result-then-runs-k
 unfolding Known
-overflow_mul-result-in-Share c =
-    let small = c.requires.there c.if-k-runs.false in
+overflow_mul-result-then-runs-k c =
+    let small = c.requires.there c.if-runs-k.true in
     let share = rw c.in-Share.is at c.requires.known in
-    omega (arith, mul_le share small)
+    rw c.from.ensures (omega (arith, mul_le share small))
 
 pub returns-in-Rows : goal.returns-in-Rows
 unfolding meets_in
 returns-in-Rows c = rw c.in-Rows.is
 
-pub returns-else-k-runs : goal.returns-else-k-runs
+pub returns-then-runs-k : goal.returns-then-runs-k
 unfolding meets_in
-returns-else-k-runs c = rw (c.in-Share.is, le-leb _ _ c.if-k-runs.false)
+returns-then-runs-k c = rw (c.in-Share.is, le-leb _ _ c.if-runs-k.true, c.from.ensures)
+
+pub returns-else-runs-k : goal.returns-else-runs-k
+unfolding meets_in
+returns-else-runs-k c = rw (c.in-Share.is, lt-leb _ _ c.if-runs-k.false)

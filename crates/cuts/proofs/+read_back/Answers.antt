@@ -1,6 +1,5 @@
 -- `read_back` meets its contract: a recursion on the falling number of rows. Assumes nothing.
 use Rattle.std.proofs.Common.{◌-◌, sym, subst, arith}
-use lib.ListN.{length-set}
 use Rattle.cuts.specs.Held.{cuts_in, ascending, Readable}
 use Rattle.cuts.proofs.Reading.{readable_cut, cuts_step}
 use Rattle.cuts.proofs.+read_back.Goals as goal
@@ -15,13 +14,10 @@ read_back-requires t c =
     let cut = readable_cut a.table.now a.k a.i c.if-k-eq0.false c.requires.readable in
     let below = cut.0 in (
       omega arith,
-      (
-        (omega arith, omega (arith, c.wide.ensures), simp length-set c.requires.k_bound.2),
-        subst (Readable a.table.now (a.k - 1)) (sym c.wide.ensures) cut.1,
-      ),
+      ((omega arith, omega (arith, c.from.ensures)), subst (Readable a.table.now (a.k - 1)) (sym c.from.ensures) cut.1),
     )
 
 pub returns : goal.returns
 returns t c =
     let a = c.args in
-    cuts_step a.table.now a.k a.i c.if-k-eq0.false c.wide.result a.cuts.now _ (omega arith) c.wide.ensures c.read_back.ensures
+    cuts_step a.table.now a.k a.i c.if-k-eq0.false c.from.result a.cuts.now _ (omega arith) c.from.ensures c.read_back.ensures

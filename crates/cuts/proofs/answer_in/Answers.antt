@@ -1,57 +1,48 @@
 -- `answer_in` meets its contract. Assumes nothing.
 use Prim.Native.Nat.{◌≤◌}
-use mathlib.Core.Bool.{true}
-use mathlib.Core.Path.{◌≡◌, ◌∙◌}
+use mathlib.Core.Path.{◌≡◌, ◌∙◌, sym}
 use native.Mathlib.Omega.{arith}
-use borrow.Author.Tests.{not-true, not-false}
+use Rattle.std.specs.Prelude.{Some}
+use Rattle.choice.specs.Bounds.{choice_in}
 use Rattle.choice.proofs.Choosing.{rows_range, comparable_last, count_le}
-use Rattle.cuts.specs.Held.{Fills}
 use Rattle.cuts.proofs.Answering.{unanswered, answered, cuts_are, read}
 use Rattle.cuts.proofs.answer_in.Goals as goal
-use Rattle.cuts.proofs.answer_in.Goals.{After-choose-choice, Else-not-choice, Start}
+use Rattle.cuts.proofs.answer_in.Goals.{In_ok-count}
 
--- the table is filled by some errors and gaps
-table_of : (s : Start) → Fills s.requires.by_index.0 s.requires.by_index.1 s.args.n s.args.runs s.args.bound s.args.table.now s.args.column.now s.args.last s.args.weighed
-table_of s = s.requires.by_index.2
+-- the number of rows that was chosen
+rows_of : (c : In_ok-count) → choice_in c.args.task.bound c.args.column.now c.args.task.runs c.args.last ≡ Some c.in_ok-count.count
+rows_of c = sym c.choose.ensures ∙ c.in_ok-count.was
 
--- the number of rows that was chosen is one of the table's
-count_in : (c : After-choose-choice) → (c.choose-choice.result.count ≤ c.args.last) × (c.args.last ≤ 64)
-count_in c = (count_le (table_of c.before).filled c.choose-choice.result c.choose-choice.ensures, (rows_range (table_of c.before).filled).1)
+-- is one of the table's
+count_in : (c : In_ok-count) → (c.in_ok-count.count ≤ c.args.last) × (c.args.last ≤ 64)
+count_in c = let filled = c.requires.2.filled in (count_le filled _ (rows_of c), (rows_range filled).1)
 
-found : (c : Else-not-choice) → c.choose-choice.result.found ≡ true
-found c = not-false _ c.if-not-choice.false
+pub choose-requires-clause-comparable : goal.choose-requires-clause-comparable
+choose-requires-clause-comparable c = comparable_last c.requires.2.filled
 
-pub choose-choice-requires : goal.choose-choice-requires
-choose-choice-requires c = record {
-  comparable = comparable_last (table_of c).filled;
-  by_index = λ k le. ((table_of c).filled.errors k le).le;
-}
-
-pub returns-then-not-choice : goal.returns-then-not-choice
-returns-then-not-choice c =
+pub returns-in_err-count : goal.returns-in_err-count
+returns-in_err-count c =
     λ err low fills.
-    let none_here = unanswered fills.filled c.choose-choice.result c.choose-choice.ensures (not-true _ c.if-not-choice.true) in
-    (c.refused.ensures ∙ none_here.0, none_here.1 _)
+    let (none_here, cuts_stay) = unanswered fills.filled (sym c.choose.ensures ∙ c.in_err-count.was) in
+    (c.from_residual.ensures ∙ none_here, cuts_stay _)
 
 pub read_back-requires : goal.read_back-requires
 read_back-requires c =
-    let t = table_of (goal.at.read_back-requires c).Start in
-    record {
-      k_bound = (omega (arith, count_in (goal.at.read_back-requires c).After-choose-choice), t.filled.costs.few, c.requires.cuts_len);
-      readable = (read t c.choose-choice.result c.choose-choice.ensures (found (goal.at.read_back-requires c).Else-not-choice)).1;
+    let fills = c.requires.2 in record {
+      in_table = (omega (arith, count_in (goal.at.read_back-requires c).In_ok-count), fills.filled.costs.few);
+      readable = (read fills _ (rows_of (goal.at.read_back-requires c).In_ok-count)).1;
     }
 
 pub offset_bounds-column-count : goal.offset_bounds-column-count
-offset_bounds-column-count c = omega (arith, count_in (goal.at.offset_bounds-column-count c).After-choose-choice)
+offset_bounds-column-count c = omega (arith, count_in (goal.at.offset_bounds-column-count c).In_ok-count)
 
 pub bounds-column-count : goal.bounds-column-count
-bounds-column-count c = omega (arith, count_in (goal.at.bounds-column-count c).After-choose-choice)
+bounds-column-count c = omega (arith, count_in (goal.at.bounds-column-count c).In_ok-count)
 
 pub returns : goal.returns
 returns c =
-    λ err low fills. (
-      answered fills.filled c.choose-choice.result c.choose-choice.ensures (found (goal.at.returns c).Else-not-choice) _ fills.weighed,
-      c.read_back.ensures
-          ∙ rw (read fills c.choose-choice.result c.choose-choice.ensures (found (goal.at.returns c).Else-not-choice)).0
-          (cuts_are fills.filled c.choose-choice.result c.choose-choice.ensures (found (goal.at.returns c).Else-not-choice) _),
+    λ err low fills.
+    let rows = rows_of (goal.at.returns c).In_ok-count in (
+      answered fills.filled _ rows _ fills.weighed,
+      c.read_back.ensures ∙ rw (read fills _ rows).0 (cuts_are fills.filled _ rows _),
     )

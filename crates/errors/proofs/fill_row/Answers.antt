@@ -16,33 +16,32 @@ use Rattle.errors.proofs.fill_row.Goals.{After-with_segment-wider}
 
 pub loop-at-init : goal.loop-at-init
 unfolding model.totals model.empty totals_in
-loop-at-init c = (c.requires.low_le_i.0, omega arith, rw (block_empty (span_in _ _ _ _) c.args.i), row_begins _ _ _ _ _ _ _)
+loop-at-init c = (c.requires.low_in_block, rw (block_empty (span_in _ _ _ _) c.args.i), row_begins _ _ _ _ _)
 
 -- the block with the segment before `at`
 wider : (c : After-with_segment-wider)
-    → totals_in c.with_segment-wider.result
-    ≡ model.totals (block_in c.args.firsts.now c.args.lasts.now c.args.values.now (c.loop-at.at - 1) c.args.i)
+    → totals_in c.with_segment-wider.result ≡ model.totals (block_in c.args.segments.now (c.loop-at.at - 1) c.args.i)
 wider c =
     c.with_segment-wider.ensures
-    ∙ grown c.requires.low_le_i.1 c.loop-at.at c.args.i _ (omega arith) (omega arith) (omega arith) c.loop-at.invariant.2
+    ∙ grown c.requires.measurable c.loop-at.at c.args.i _ (omega arith) (omega arith) (omega arith) c.loop-at.invariant.1
 
 pub with_segment-wider-requires : goal.with_segment-wider-requires
 with_segment-wider-requires c =
-    growing c.requires.low_le_i.1 c.loop-at.at c.args.i _ (omega arith) (omega arith) (omega arith) c.loop-at.invariant.2
+    growing c.requires.measurable c.loop-at.at c.args.i _ (omega arith) (omega arith) (omega arith) c.loop-at.invariant.1
 
 -- stated before what `error` asks for, so that a wrong error is refused as such
 pub loop-at-preserved : goal.loop-at-preserved
-loop-at-preserved c = (
-  omega arith,
-  omega arith,
-  wider (goal.at.loop-at-preserved c).After-with_segment-wider,
-  row_next _ _ _ _ _ _ _ c.loop-at.invariant.3 (omega arith) (omega arith) (omega arith) (block_error_lem _ _ _ _ (wider (goal.at.loop-at-preserved c).After-with_segment-wider) c.error.ensures),
-)
+loop-at-preserved c =
+    let is = wider (goal.at.loop-at-preserved c).After-with_segment-wider in (
+      omega arith,
+      is,
+      row_next _ _ _ _ _ c.loop-at.invariant.2 (omega arith) (omega arith) (omega arith) (block_error_lem _ _ _ _ is c.error.ensures),
+    )
 
 pub error-requires : goal.error-requires
-error-requires c = subst Block (sym (wider c)) (c.requires.low_le_i.1.blocks _ _ (omega arith) (omega arith))
+error-requires c = subst Block (sym (wider c)) (c.requires.measurable.blocks _ _ (omega arith) (omega arith))
 
 pub returns : goal.returns
 returns c =
     let here : c.loop-at.at ≡ c.args.low = omega arith in
-    rw here at c.loop-at.invariant.3
+    rw here at c.loop-at.invariant.2

@@ -3,13 +3,11 @@
 use Prim.Native.Nat.{◌≤◌}
 use mathlib.Core.Path.{◌≡◌}
 use Rattle.model.specs.Blocks as model
+use Rattle.model.specs.Calls.{kind_number}
 use Rattle.blocks.specs.Meaning.{totals_in}
 use Rattle.measures.specs.Held.{block_in}
 use Rattle.errors.specs.Filled.{EndingAt}
 use Rattle.errors.proofs.fill_row.Given as goal
 
 abbrev pub invariant-loop-at : goal.invariant-loop-at
-invariant-loop-at l = (l.low ≤ l.at) × (l.at ≤ l.i) × (totals_in l.block ≡ model.totals (block_in l.firsts l.lasts l.values l.at l.i)) × EndingAt l.kind l.firsts l.lasts l.values l.at l.i l.start l.initial.errors l.errors
-
-abbrev pub decreases-loop-at : goal.decreases-loop-at
-decreases-loop-at l = l.at
+invariant-loop-at l = (l.low ≤ l.at) × (totals_in l.block ≡ model.totals (block_in l.segments l.at l.i)) × EndingAt (kind_number l.kind) l.segments l.at l.i l.start l.initial.errors l.errors

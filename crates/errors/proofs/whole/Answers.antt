@@ -9,7 +9,7 @@ pub block_totals-requires : goal.block_totals-requires
 block_totals-requires c = (omega arith, c.requires)
 
 pub error-requires : goal.error-requires
-error-requires c = subst Block (sym c.block_totals.ensures) (c.requires.blocks 0 c.args.n (omega arith) (omega arith))
+error-requires c = subst Block (sym c.block_totals.ensures) (c.requires.blocks 0 c.args.segments.now.count (omega arith) (omega arith))
 
 pub returns : goal.returns
 returns c = block_error_lem _ _ _ _ c.block_totals.ensures c.error.ensures

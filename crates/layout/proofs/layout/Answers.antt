@@ -1,8 +1,7 @@
--- `layout::layout` meets its contract. The invariant: header and the first `i` rows are in place. The measure is the number of
--- rows that are left. Assumes nothing.
+-- `layout::layout` meets its contract. The invariant: header and the first `i` rows are in place.
+-- Assumes nothing.
 use mathlib.Core.Path.{◌≡◌, ap, ◌∙◌}
 use native.Mathlib.Omega.{arith}
-use borrow.Author.Rules.{rules}
 use borrow.Rule.Slice.PartMut.{mid_len}
 use lib.ListN.{length}
 use Rattle.model.specs.Spans.{nowhere}
@@ -15,25 +14,15 @@ use Rattle.layout.proofs.layout.Goals.{At-loop-i}
 
 pub loop-i-init : goal.loop-i-init
 loop-i-init c =
-    let a = c.args in (
-      search rules,
-      c.copy.ensures
-          ∙ start a.mark a.kind a.error a.count a.rows _ _ c.no_slot-slot.ensures c.header_bytes-header.ensures,
-    )
+    let a = c.args in
+    c.copy.ensures
+    ∙ start a.mark a.kind a.error a.count a.rows _ _ c.no_slot-slot.ensures c.header_bytes-header.ensures
 
 -- the slot stays as long as it is
 full : (c : At-loop-i) → length c.loop-i.slot ≡ 768
 full c =
     let a = c.args in
-    ap length c.loop-i.invariant.1 ∙ length_so_far a.mark a.kind a.error a.count a.rows c.loop-i.i (omega arith)
-
-pub slice_bounds-copy-count : goal.slice_bounds-copy-count
-unfolding row_place
-slice_bounds-copy-count c = search rules
-
-pub slice_bounds-slot-start : goal.slice_bounds-slot-start
-unfolding row_place
-slice_bounds-slot-start c = search rules
+    ap length c.loop-i.invariant ∙ length_so_far a.mark a.kind a.error a.count a.rows c.loop-i.i (omega arith)
 
 pub slice_bounds-slot-end : goal.slice_bounds-slot-end
 slice_bounds-slot-end c = let f = full (goal.at.slice_bounds-slot-end c).At-loop-i in omega arith
@@ -48,16 +37,14 @@ copy-requires-in-loop-i c =
 pub loop-i-preserved : goal.loop-i-preserved
 unfolding row_of_span nowhere
 loop-i-preserved c =
-    let a = c.args in (
-      search rules,
-      turn a.mark a.kind a.error a.count a.rows c.loop-i.i _ _ _ _ (omega arith) c.loop-i.invariant.1
-          c.place-at.ensures c.row_bytes-row.ensures c.copy-in-loop-i.ensures,
-    )
+    let a = c.args in
+    turn a.mark a.kind a.error a.count a.rows c.loop-i.i _ _ _ _ (omega arith) c.loop-i.invariant
+    c.place-at.ensures c.row_bytes-row.ensures c.copy-in-loop-i.ensures
 
 pub returns : goal.returns
 returns c =
     let a = c.args in
     let end : c.loop-i.i ≡ a.count = omega arith in
-    c.loop-i.invariant.1
+    c.loop-i.invariant
     ∙ ap (so_far a.mark a.kind a.error a.count a.rows) end
     ∙ finish a.mark a.kind a.error a.count a.rows

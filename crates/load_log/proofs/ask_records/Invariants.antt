@@ -1,5 +1,5 @@
 -- `load_log::ask_records` meets its contract. The loop's invariant: what is left to ask says what the whole says. Assumes nothing.
-use Prim.Native.Nat.{◌≤◌, ◌-◌}
+use Prim.Native.Nat.{◌-◌}
 use mathlib.Core.Path.{◌≡◌}
 use Rattle.model.specs.Questions.{each, record_questions}
 use Rattle.theory.proofs.Asking.{answer}
@@ -7,8 +7,4 @@ use Rattle.load_log.proofs.ask_records.Given as goal
 
 abbrev pub invariant-loop-index : goal.invariant-loop-index
 invariant-loop-index l =
-    (l.index ≤ l.count)
-    × (answer (each (record_questions l.log) l.index (l.count - l.index)) ≡ answer (each (record_questions l.log) 0 l.count))
-
-abbrev pub decreases-loop-index : goal.decreases-loop-index
-decreases-loop-index l = l.count - l.index
+    answer (each (record_questions l.log) l.index (l.count - l.index)) ≡ answer (each (record_questions l.log) 0 l.count)

@@ -1,6 +1,7 @@
--- `load_log::decode` meets its contract. The loop's invariant: the arrays hold the first records. Assumes nothing.
-use Prim.Native.Nat.{ℕ, ◌<◌, ◌*◌, ◌/◌}
-use mathlib.Core.List.{List, [], ◌∷◌, ◌++◌}
+-- `load_log::decode` meets its contract. The loop's invariant: there is a place for each record, and the arrays
+-- hold the first ones. Assumes nothing.
+use Prim.Native.Nat.{ℕ, ◌*◌, ◌/◌}
+use mathlib.Core.List.{[], ◌∷◌, ◌++◌}
 use mathlib.Core.Path.{◌≡◌, sym, ap, ◌∙◌}
 use native.Mathlib.Numerals.{add-one}
 use lib.ListN.{length}
@@ -17,35 +18,18 @@ use native.Mathlib.Omega.{arith}
 use Rattle.load_log.proofs.decode.Goals as goal
 
 pub loop-index-init : goal.loop-index-init
-unfolding list_from
-loop-index-init c = (omega arith, c.empty-records.ensures)
-
-pub bounds-records-index : goal.bounds-records-index
-unfolding record_count record_length most_records
-bounds-records-index c = omega (arith, c.requires)
-
-pub bounds-records-index-in-loop-index : goal.bounds-records-index-in-loop-index
-unfolding record_count record_length most_records
-bounds-records-index-in-loop-index c = omega (arith, c.requires)
-
-pub bounds-records-index-in-loop-index-2 : goal.bounds-records-index-in-loop-index-2
-unfolding record_count record_length most_records
-bounds-records-index-in-loop-index-2 c = omega (arith, c.requires)
-
-pub bounds-records-index-in-loop-index-3 : goal.bounds-records-index-in-loop-index-3
-unfolding record_count record_length most_records
-bounds-records-index-in-loop-index-3 c = omega (arith, c.requires)
+unfolding list_from record_count record_length most_records
+loop-index-init c = (omega (arith, c.requires), c.none-records.ensures)
 
 pub loop-index-preserved : goal.loop-index-preserved
-unfolding record_span record_count record_length most_records
+unfolding record_span record_length
 loop-index-preserved c =
     let i = c.loop-index.index in
-    let log : List ℕ = c.args.log.now in
-    let at : ℕ → Span ℕ = λ j. record_at log (9 * j) in
-    let room : i < 128 = omega (arith, c.requires) in (
-      omega arith,
+    let few = c.loop-index.invariant.0 in
+    let at : ℕ → Span ℕ = λ j. record_at c.args.log.now (9 * j) in (
+      few,
       record_stored c.loop-index.records (list_from 0 i at) (record_span c.record_at-record.result) i
-          c.loop-index.invariant.1 (length-list_from 0 i at) room
+          c.loop-index.invariant.1 (length-list_from 0 i at) (omega arith)
           ∙ ap record_arrays
           (ap (λ (s : Span ℕ). list_from 0 i at ++ (s ∷ [])) c.record_at-record.ensures ∙ sym (list_from_snoc at i)
           ∙ ap (λ (n : ℕ). list_from 0 n at) (sym (add-one i))),

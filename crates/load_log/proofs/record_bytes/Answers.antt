@@ -6,13 +6,4 @@ use Rattle.load_log.proofs.record_bytes.Goals as goal
 
 pub returns : goal.returns
 unfolding record_bytes record_span
-returns c =
-    simp (
-      two_bytes,
-      c.low.ensures,
-      c.low-2.ensures,
-      c.low-3.ensures,
-      c.low-4.ensures,
-      c.low-5.ensures,
-      c.low-6.ensures,
-    )
+returns c = simp (two_bytes, c.to_le_bytes-first.ensures, c.to_le_bytes-last.ensures, c.to_le_bytes-load.ensures)

@@ -5,15 +5,16 @@ use mathlib.Core.Path.{◌≡◌, ap, sym, ◌∙◌}
 use native.Mathlib.Omega.{arith}
 use borrow.Author.Tests.{le-leb, lt-leb}
 use lib.ListN.{length}
+use Rattle.std.proofs.lemmas.Result.{err_from_is_err_and}
 use Rattle.model.specs.Log.{record_length, record_count, without_twins}
 use Rattle.model.specs.Questions.{Outcome, accepted, outcome, lent, ask, ask_room, most_records, file_questions, without_twins_questions}
-use Rattle.model.specs.Calls.{asked_case, log_case, without_twins_outcome, without_twins_buffer}
+use Rattle.model.specs.Calls.{answer_case, count_case, number, without_twins_outcome, without_twins_buffer}
 use Rattle.model.specs.Demands.{AllPass, FilePromise}
 use Rattle.theory.proofs.Refusals.{outcome_accepted, all_outcome, all_lent, refused_lent, refused_same}
 use Rattle.theory.proofs.Twins.{file_kept}
 use Rattle.load_log.proofs.Asking.{file_records}
 use Rattle.load_log.proofs.without_twins.Goals as goal
-use Rattle.load_log.proofs.without_twins.Goals.{In-Passed}
+use Rattle.load_log.proofs.without_twins.Goals.{In_ok-ask_file}
 
 -- a call that says and leaves what the definitions do keeps the promise too
 promised : (log buffer : List ℕ) (said : Outcome ℕ) (after : List ℕ) → said ≡ without_twins_outcome log (length buffer)
@@ -26,39 +27,40 @@ promised : (log buffer : List ℕ) (said : Outcome ℕ) (after : List ℕ) → s
 promised log buffer said after s h = record { says = s; holds = h; promise = rw (s, h) (file_kept log buffer) }
 
 pub returns-then-buffer-log : goal.returns-then-buffer-log
-unfolding outcome lent ask ask_room without_twins_questions without_twins_outcome without_twins_buffer log_case
+unfolding outcome lent ask ask_room without_twins_questions without_twins_outcome without_twins_buffer answer_case number
 returns-then-buffer-log c =
     let a = c.args in
     let short = lt-leb (length a.log.now) (length a.buffer.now) (omega arith) in
-    promised a.log.now a.buffer.now _ _ (simp short) (simp short)
+    promised a.log.now a.buffer.now _ _ (ap count_case c.no.ensures ∙ simp short) (simp short)
 
 -- 4 to 9 are passed
-passed : (c : In-Passed) → AllPass (file_questions c.args.log.now)
-unfolding asked_case
-passed c = (outcome_accepted _ tt tt (sym c.ask_file.ensures ∙ ap asked_case c.in-Passed.is)).0
+passed : (c : In_ok-ask_file) → AllPass (file_questions c.args.log.now)
+unfolding answer_case
+passed c = (outcome_accepted _ tt tt (sym c.in_ok-ask_file.ensures)).0
 
 pub keep-written-requires : goal.keep-written-requires
 unfolding record_count record_length most_records
 keep-written-requires c =
-    let (few, asked) = file_records c.args.log.now (passed (goal.at.keep-written-requires c).In-Passed) in
-    (omega arith, omega arith, omega arith, asked)
+    let (few, asked) = file_records c.args.log.now (passed (goal.at.keep-written-requires c).In_ok-ask_file) in
+    record { few = omega arith; has_records = omega arith; begun = asked; room = omega arith }
 
-pub returns-in-Passed : goal.returns-in-Passed
-unfolding outcome lent ask ask_room without_twins_questions without_twins_outcome without_twins_buffer without_twins record_count record_length log_case
-returns-in-Passed c =
+pub returns : goal.returns
+unfolding outcome lent ask ask_room without_twins_questions without_twins_outcome without_twins_buffer without_twins record_count record_length answer_case
+returns c =
     let a = c.args in
+    let asked = passed (goal.at.returns c).In_ok-ask_file in
     let room = le-leb (length a.log.now) (length a.buffer.now) (omega arith) in
     promised a.log.now a.buffer.now _ _
-    (ap accepted c.keep-written.ensures.value ∙ simp room (sym (all_outcome (file_questions a.log.now) _ (passed (goal.at.returns-in-Passed c).In-Passed))))
-    (c.keep-written.ensures.buffer_after ∙ simp (room, c.keep-written.ensures.value) (sym (all_lent (file_questions a.log.now) _ _ (passed (goal.at.returns-in-Passed c).In-Passed))))
+    (ap accepted c.keep-written.ensures.tells ∙ simp room (sym (all_outcome (file_questions a.log.now) _ asked)))
+    (c.keep-written.ensures.written ∙ simp (room, c.keep-written.ensures.tells) (sym (all_lent (file_questions a.log.now) _ _ asked)))
 
-pub returns-in-Refused : goal.returns-in-Refused
-unfolding outcome lent ask ask_room without_twins_questions without_twins_outcome without_twins_buffer log_case asked_case
-returns-in-Refused c =
+pub returns-in_err-ask_file : goal.returns-in_err-ask_file
+unfolding outcome lent ask ask_room without_twins_questions without_twins_outcome without_twins_buffer answer_case
+returns-in_err-ask_file c =
     let a = c.args in
-    let r = c.in-Refused.refusal in
+    let p = err_from_is_err_and c.from_residual.result c.from_residual.ensures.1 in
     let room = le-leb (length a.log.now) (length a.buffer.now) (omega arith) in
-    let says = sym c.ask_file.ensures ∙ ap asked_case c.in-Refused.is in
+    let says = sym c.in_err-ask_file.ensures in
     promised a.log.now a.buffer.now _ _
-    (simp room (sym (refused_same (file_questions a.log.now) (tt {0}) _ r.question r.index says)))
-    (simp room (sym (refused_lent (file_questions a.log.now) (tt {0}) r.question r.index _ _ says)))
+    (rw (p.1, p.2) (simp room (sym (refused_same (file_questions a.log.now) (tt {0}) _ _ _ says))))
+    (simp room (sym (refused_lent (file_questions a.log.now) (tt {0}) _ _ _ _ says)))

@@ -1,48 +1,44 @@
 -- `lookups::look` meets its contract: what is written for the row that was found, or for none. Assumes nothing.
 use Prim.Native.Nat.{ℕ, ◌≤◌, ◌<◌}
 use mathlib.Core.Option.{none, some}
-use mathlib.Core.Path.{◌≡◌, sym, ap, ◌∙◌}
+use mathlib.Core.Path.{◌≡◌, sym, ◌∙◌}
 use native.Mathlib.Omega.{arith}
 use lib.ListN.{length, get_or}
+use Rattle.model.specs.Common.{option_of}
 use Rattle.model.specs.Slot.{slot_count, slot_row, slot_rows, value_in}
 use Rattle.model.specs.Calls.{row_of_span}
-use Rattle.model.specs.Lookups.{value_shown, covered_shown}
 use Rattle.theory.proofs.Refusals.{all_outcome}
 use Rattle.slot.specs.Places.{place_of}
 use Rattle.slot.proofs.Answers.{slot_sized}
 use Rattle.lookups.specs.Ends.{Reached}
 use Rattle.lookups.proofs.Found.{ends_in_order, found, not_found}
 use Rattle.lookups.proofs.look.Goals as goal
-use Rattle.lookups.proofs.look.Goals.{After-place_of, After-reach-at, After-wide-count, Start}
-
-pub bounds-slot-3 : goal.bounds-slot-3
-bounds-slot-3 c = omega (arith, (slot_sized c.args.slot.now (all_outcome _ tt c.requires)).0)
+use Rattle.lookups.proofs.look.Goals.{After-place_of, After-reach-at, After-count-count, Start}
 
 -- the slot has room and at most 64 rows
 sizes : (c : Start) → (768 ≤ length c.args.slot.now) × (slot_count c.args.slot.now ≤ 64)
 sizes c = slot_sized c.args.slot.now (all_outcome _ tt c.requires)
 
--- its bytes are bytes
-small : (c : After-wide-count) (i : ℕ) → get_or c.args.slot.now i 0 < 256
-small c i = omega (arith, c.type_inv.slot i)
+pub count-count-requires : goal.count-count-requires
+count-count-requires c = (sizes (goal.at.count-count-requires c).Start).0
 
-counted : (c : After-wide-count) → c.wide-count.result ≡ slot_count c.args.slot.now
-unfolding slot_count
-counted c = c.wide-count.ensures
+-- its bytes are bytes
+small : (c : After-count-count) (i : ℕ) → get_or c.args.slot.now i 0 < 256
+small c i = omega (arith, c.type_inv.slot i)
 
 pub reach-at-requires : goal.reach-at-requires
 reach-at-requires c =
-    let count = counted (goal.at.reach-at-requires c).After-wide-count in
+    let count = c.count-count.ensures in
     record {
-      in_bounds = rw count (sizes (goal.at.reach-at-requires c).Start);
-      end_in_order = rw count (ends_in_order c.args.slot.now (small (goal.at.reach-at-requires c).After-wide-count) c.requires);
+      rows_of_slot = rw count (sizes (goal.at.reach-at-requires c).Start);
+      end_in_order = rw count (ends_in_order c.args.slot.now (small (goal.at.reach-at-requires c).After-count-count) c.requires);
     }
 
 -- the row that was reached
 reached : (c : After-reach-at)
     → let a = c.args in
     Reached a.slot.now (slot_count a.slot.now) (place_of a.group a.frame) c.reach-at.result
-reached c = rw (counted (goal.at.After-reach-at c).After-wide-count, c.place_of-place.ensures) at c.reach-at.ensures
+reached c = rw (c.count-count.ensures, c.place_of-place.ensures) at c.reach-at.ensures
 
 framed : (c : Start) → c.args.frame < 65536
 framed c = omega (arith, c.ranges.frame.fits)
@@ -50,7 +46,7 @@ framed c = omega (arith, c.ranges.frame.fits)
 pub row-row-requires : goal.row-row-requires
 row-row-requires c =
     let s = sizes (goal.at.row-row-requires c).Start in
-    (s.0, omega (arith, s.1, counted (goal.at.row-row-requires c).After-wide-count, c.if-at-count.true))
+    (s.0, omega (arith, s.1, c.count-count.ensures, c.if-at-count.true))
 
 -- what was found of the frame
 is_found : (c : After-reach-at)
@@ -61,7 +57,7 @@ is_found : (c : After-reach-at)
     → value_in (slot_rows a.slot.now) a.group a.frame ≡ some row.value
 is_found c =
     let start = (goal.at.After-reach-at c).Start in
-    found c.args.slot.now (small (goal.at.After-reach-at c).After-wide-count) c.requires c.args.group c.args.frame (framed start) c.reach-at.result (reached c)
+    found c.args.slot.now (small (goal.at.After-reach-at c).After-count-count) c.requires c.args.group c.args.frame (framed start) c.reach-at.result (reached c)
 
 is_not : (c : After-reach-at)
     → let a = c.args in
@@ -70,7 +66,7 @@ is_not : (c : After-reach-at)
     → value_in (slot_rows a.slot.now) a.group a.frame ≡ none
 is_not c =
     let start = (goal.at.After-reach-at c).Start in
-    not_found c.args.slot.now (small (goal.at.After-reach-at c).After-wide-count) c.requires c.args.group c.args.frame (framed start) c.reach-at.result (reached c)
+    not_found c.args.slot.now (small (goal.at.After-reach-at c).After-count-count) c.requires c.args.group c.args.frame (framed start) c.reach-at.result (reached c)
 
 -- the place of the row's first frame
 begins : (c : After-place_of)
@@ -80,19 +76,19 @@ unfolding row_of_span
 begins c = c.place_of.ensures ∙ rw c.row-row.ensures
 
 pub returns-then-place_of-place : goal.returns-then-place_of-place
-unfolding value_shown covered_shown row_of_span
+unfolding option_of row_of_span
 returns-then-place_of-place c =
-    let e = is_found (goal.at.returns-then-place_of-place c).After-reach-at (omega (arith, counted (goal.at.returns-then-place_of-place c).After-wide-count, c.if-at-count.true)) (omega (arith, begins (goal.at.returns-then-place_of-place c).After-place_of, c.place_of-place.ensures, c.if-place_of-place.true)) in
-    (rw c.row-row.ensures (sym (ap value_shown e)), sym (ap covered_shown e))
+    let e = is_found (goal.at.returns-then-place_of-place c).After-reach-at (omega (arith, c.count-count.ensures, c.if-at-count.true)) (omega (arith, begins (goal.at.returns-then-place_of-place c).After-place_of, c.place_of-place.ensures, c.if-place_of-place.true)) in
+    rw c.row-row.ensures (sym e)
 
 pub returns-else-place_of-place : goal.returns-else-place_of-place
-unfolding value_shown covered_shown
+unfolding option_of
 returns-else-place_of-place c =
     let e = is_not (goal.at.returns-else-place_of-place c).After-reach-at (λ lt. omega (arith, begins (goal.at.returns-else-place_of-place c).After-place_of, c.place_of-place.ensures, c.if-place_of-place.false)) in
-    (sym (ap value_shown e), sym (ap covered_shown e))
+    sym e
 
 pub returns-else-at-count : goal.returns-else-at-count
-unfolding value_shown covered_shown
+unfolding option_of
 returns-else-at-count c =
-    let e = is_not (goal.at.returns-else-at-count c).After-reach-at (λ lt. absurd (omega (arith, lt, counted (goal.at.returns-else-at-count c).After-wide-count, c.if-at-count.false))) in
-    (sym (ap value_shown e), sym (ap covered_shown e))
+    let e = is_not (goal.at.returns-else-at-count c).After-reach-at (λ lt. absurd (omega (arith, lt, c.count-count.ensures, c.if-at-count.false))) in
+    sym e

@@ -1,49 +1,50 @@
 -- `lookups::look_up` meets its contract: every question, then both lists, or neither. Assumes nothing.
-use mathlib.Core.Path.{◌≡◌, sym, ◌∙◌}
+use mathlib.Core.Path.{refl, sym, ◌∙◌}
 use lib.ListN.{length}
-use Rattle.model.specs.Questions.{accepted, each}
-use Rattle.model.specs.Calls.{asked_case}
-use Rattle.model.specs.Lookups.{pair_questions, ahead_of_groups, lookups_questions, lookups_outcome}
-use Rattle.theory.proofs.Tests.{true≢false}
-use Rattle.theory.proofs.Lookups.{passed}
+use Rattle.std.proofs.lemmas.Result.{err_from_is_err_and}
+use Rattle.model.specs.Questions.{accepted}
+use Rattle.model.specs.Calls.{answer_case}
+use Rattle.model.specs.Lookups.{lookups_questions, lookups_outcome}
+use Rattle.theory.proofs.Refusals.{accepted≢refused, outcome_accepted, refused_first, passed_first}
+use Rattle.theory.proofs.Lookups.{passed_ahead}
 use Rattle.lookups.proofs.Left.{refused_leaves, passed_leaves}
 use Rattle.lookups.proofs.look_up.Goals as goal
-use Rattle.lookups.proofs.look_up.Goals.{After-then-all, Else-not-is_passed}
 
--- what all questions say
-says : (c : After-then-all)
-    → let a = c.args in
-    asked_case c.then-all.result
-    ≡ lookups_outcome a.slot.now a.groups.now (length a.frames.now) (length a.values.now) (length a.covered.now)
-unfolding lookups_outcome lookups_questions
-says c =
+-- the lists are left as they were by a question's 'no'
+pub returns-in_err-ask : goal.returns-in_err-ask
+unfolding answer_case lookups_outcome lookups_questions
+returns-in_err-ask c =
     let a = c.args in
-    c.then-all.ensures
-    (ahead_of_groups a.slot.now (length a.groups.now) (length a.frames.now) (length a.values.now) (length a.covered.now))
-    (each (pair_questions a.groups.now) 0 (length a.groups.now)) c.ask-asked.ensures c.ask_groups-known.ensures
+    let p = err_from_is_err_and c.from_residual.result c.from_residual.ensures.1 in
+    rw (p.1, p.2)
+    (refused_leaves a.slot.now a.groups.now a.frames.now a.values.now a.covered.now _
+    (sym (refused_first _ _ tt tt _ _ (sym c.in_err-ask.ensures))) (λ e. accepted≢refused (sym e)))
 
-pub returns-then-not-is_passed : goal.returns-then-not-is_passed
-returns-then-not-is_passed c =
+pub returns-in_err-ask_groups : goal.returns-in_err-ask_groups
+unfolding answer_case lookups_outcome lookups_questions
+returns-in_err-ask_groups c =
     let a = c.args in
-    let asked = says (goal.at.returns-then-not-is_passed c).After-then-all in
-    refused_leaves a.slot.now a.groups.now a.frames.now a.values.now a.covered.now _ asked
-    (λ e. true≢false (sym (c.is_passed.ensures.1 e) ∙ c.if-not-is_passed.true))
+    let p = err_from_is_err_and c.from_residual-in_err-ask_groups.result c.from_residual-in_err-ask_groups.ensures.1 in
+    rw (p.1, p.2)
+    (refused_leaves a.slot.now a.groups.now a.frames.now a.values.now a.covered.now _
+    (sym (passed_first _ _ tt tt (sym c.in_ok-ask.ensures) ∙ sym c.in_err-ask_groups.ensures)) (λ e. accepted≢refused (sym e)))
 
--- where it is passed, every question was
-accepts : (c : Else-not-is_passed) → asked_case c.then-all.result ≡ accepted tt
-accepts c = c.is_passed.ensures.0 c.if-not-is_passed.false
-
+-- what the questions ahead of 7 say of the slot and of the lists
 pub fill-requires : goal.fill-requires
+unfolding answer_case
 fill-requires c =
     let a = c.args in
-    let (long, read, few, known) = passed a.slot.now a.groups.now (length a.frames.now) (length a.values.now) (length a.covered.now) (sym (says (goal.at.fill-requires c).After-then-all) ∙ accepts (goal.at.fill-requires c).Else-not-is_passed) in
+    let ahead = (outcome_accepted _ tt tt (sym c.in_ok-ask.ensures)).0 in
+    let (long, read, few) = passed_ahead a.slot.now (length a.groups.now) (length a.frames.now) (length a.values.now) (length a.covered.now) ahead in
     record {
       all_pass = read;
-      groups_in_bounds = long;
+      long_enough = long;
     }
 
 pub returns : goal.returns
+unfolding answer_case lookups_outcome lookups_questions
 returns c =
     let a = c.args in
-    let l = passed_leaves a.slot.now a.groups.now a.frames.now a.values.now a.covered.now _ (says (goal.at.returns c).After-then-all) (accepts (goal.at.returns c).Else-not-is_passed) in
-    rw (c.fill.ensures.values_after, c.fill.ensures.covered_after) l
+    rw (c.fill.ensures.values_after, c.fill.ensures.covered_after)
+    (passed_leaves a.slot.now a.groups.now a.frames.now a.values.now a.covered.now (accepted tt)
+    (sym (passed_first _ _ tt tt (sym c.in_ok-ask.ensures) ∙ sym c.in_ok-ask_groups.ensures)) refl)

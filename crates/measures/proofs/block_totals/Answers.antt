@@ -10,17 +10,17 @@ use Rattle.measures.proofs.block_totals.Goals as goal
 
 pub loop-at-init : goal.loop-at-init
 unfolding model.totals model.empty totals_in
-loop-at-init c = (c.requires.0, omega arith, rw (block_empty (span_in _ _ _ _) c.args.i))
+loop-at-init c = (c.requires.0, rw (block_empty (span_in _ _ _ _) c.args.i))
 
-pub with_segment-wider-requires : goal.with_segment-wider-requires
-with_segment-wider-requires c =
-    growing c.requires.1 c.loop-at.at c.args.i _ (omega arith) (omega arith) (omega arith) c.loop-at.invariant.2
+pub with_segment-block-requires : goal.with_segment-block-requires
+with_segment-block-requires c =
+    growing c.requires.1 c.loop-at.at c.args.i _ (omega arith) (omega arith) (omega arith) c.loop-at.invariant.1
 
 pub loop-at-preserved : goal.loop-at-preserved
 loop-at-preserved c =
-    (omega arith, omega arith, c.with_segment-wider.ensures ∙ grown c.requires.1 c.loop-at.at c.args.i _ (omega arith) (omega arith) (omega arith) c.loop-at.invariant.2)
+    (omega arith, c.with_segment-block.ensures ∙ grown c.requires.1 c.loop-at.at c.args.i _ (omega arith) (omega arith) (omega arith) c.loop-at.invariant.1)
 
 pub returns : goal.returns
 returns c =
     let here : c.loop-at.at ≡ c.args.j = omega arith in
-    rw here at c.loop-at.invariant.2
+    rw here at c.loop-at.invariant.1

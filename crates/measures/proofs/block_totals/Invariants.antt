@@ -7,7 +7,4 @@ use Rattle.measures.specs.Held.{block_in}
 use Rattle.measures.proofs.block_totals.Given as goal
 
 abbrev pub invariant-loop-at : goal.invariant-loop-at
-invariant-loop-at l = (l.j ≤ l.at) × (l.at ≤ l.i) × (totals_in l.block ≡ model.totals (block_in l.firsts l.lasts l.values l.at l.i))
-
-abbrev pub decreases-loop-at : goal.decreases-loop-at
-decreases-loop-at l = l.at
+invariant-loop-at l = (l.j ≤ l.at) × (totals_in l.block ≡ model.totals (block_in l.segments l.at l.i))

@@ -9,8 +9,8 @@ returns c =
     record {
       says = e.says;
       holds = e.holds;
-      header = r.0;
-      rows = r.1;
+      header = r.header;
+      rows = r.rows;
       promise = e.promise;
-      best = λ counts accepts. best_reading _ _ _ c.read-reading.result (e.promise.best counts accepts) r.0 r.1;
+      best = λ counts accepts. best_reading _ _ _ c.read-reading.result (e.promise.best counts accepts) r.header r.rows;
     }

@@ -1,13 +1,12 @@
 -- `query_by_letter` meets its contract: the letter names the bound, or refuses. Assumes nothing.
-use borrow.Author.Tests.{eq-eqb, ne_eqb}
 use Prim.Native.Nat.{ℕ}
 use mathlib.Core.List.{List}
-use mathlib.Core.Path.{◌≡◌, ◌∙◌}
+use mathlib.Core.Path.{◌≡◌, sym, ap, ◌∙◌}
 use lib.ListN.{length}
+use Rattle.model.specs.Common.{option_of}
 use Rattle.model.specs.Questions.{Outcome}
-use Rattle.model.specs.Calls.{Counts, bound_of, letter_outcome, letter_slot}
+use Rattle.model.specs.Calls.{Counts, letter_outcome, letter_slot}
 use Rattle.model.specs.Demands.{LetterPromise}
-use Rattle.model.specs.declared.Bound.TheVariants.{Rows, Share}
 use Rattle.theory.proofs.Demands.{letter_promise}
 use Rattle.pacer.proofs.Answering.{by_letter, no_letter}
 use Rattle.pacer.proofs.query_by_letter.Goals as goal
@@ -23,28 +22,17 @@ kept : (kind letter x width : ℕ) (log slot : List ℕ) {said : Outcome Counts}
 kept kind letter x width log slot {said} {after} answers left =
     record { says = answers; holds = left; promise = letter_promise kind letter x width log slot said after answers left }
 
-pub returns-then-letter-eq82 : goal.returns-then-letter-eq82
-unfolding bound_of
-returns-then-letter-eq82 c =
+pub returns-in-Some : goal.returns-in-Some
+unfolding option_of
+returns-in-Some c =
     let a = c.args in
     let e = c.query_by_bound.ensures in
-    let says = by_letter a.kind a.letter a.bound a.width a.log.now a.slot.now (Rows a.bound)
-    (simp (eq-eqb _ _ c.if-letter-eq82.true)) in
+    let says = by_letter a.kind a.letter a.bound a.width a.log.now a.slot.now _ (sym c.bound_of.ensures ∙ ap option_of c.in-Some.is) in
     kept a.kind a.letter a.bound a.width a.log.now a.slot.now (e.says ∙ says.0) (e.holds ∙ says.1)
 
-pub returns-then-letter-eq69 : goal.returns-then-letter-eq69
-unfolding bound_of
-returns-then-letter-eq69 c =
+pub returns-in-None : goal.returns-in-None
+unfolding option_of
+returns-in-None c =
     let a = c.args in
-    let e = c.query_by_bound-then-letter-eq69.ensures in
-    let says = by_letter a.kind a.letter a.bound a.width a.log.now a.slot.now (Share a.bound)
-    (simp (ne_eqb _ _ c.if-letter-eq82.false, eq-eqb _ _ c.if-letter-eq69.true)) in
-    kept a.kind a.letter a.bound a.width a.log.now a.slot.now (e.says ∙ says.0) (e.holds ∙ says.1)
-
-pub returns : goal.returns
-unfolding bound_of
-returns c =
-    let a = c.args in
-    let says = no_letter a.kind a.letter a.bound a.width a.log.now a.slot.now
-    (simp (ne_eqb _ _ c.if-letter-eq82.false, ne_eqb _ _ c.if-letter-eq69.false)) in
+    let says = no_letter a.kind a.letter a.bound a.width a.log.now a.slot.now (sym c.bound_of.ensures ∙ ap option_of c.in-None.is) in
     kept a.kind a.letter a.bound a.width a.log.now a.slot.now (c.refuse_letter.ensures ∙ says.0) says.1

@@ -1,31 +1,17 @@
 -- `store` meets its contract. Assumes nothing.
-use borrow.Author.Tests.{not-true, not-false}
-use mathlib.Core.Bool.{true, false}
-use mathlib.Core.Path.{◌≡◌, refl, sym, ◌∙◌}
-use Rattle.model.specs.Calls.{query_case}
-use Rattle.preparing.specs.Prepared.{writes}
+use Rattle.std.proofs.lemmas.Result.{err_from_is_err_and}
+use Rattle.model.specs.Slot.{slot_length}
+use Rattle.model.specs.Calls.{answer_case}
+use Rattle.pacer.specs.Promises.{stored_in}
 use Rattle.pacer.proofs.store.Goals as goal
-use Rattle.pacer.proofs.store.Goals.{Else-not-is_written, Then-not-is_written}
 
--- what the answer says of the slot
-unwritten : (c : Then-not-is_written) → writes (query_case c.args.prepared.answer) ≡ false
-unwritten c = sym c.is_written.ensures ∙ not-true _ c.if-not-is_written.true-raw
-
-pub returns-then-not-is_written : goal.returns-then-not-is_written
-returns-then-not-is_written c = record {
-  says = refl;
-  holds = rw (unwritten c);
-}
-
-written : (c : Else-not-is_written) → writes (query_case c.args.prepared.answer) ≡ true
-written c = sym c.is_written.ensures ∙ not-false _ c.if-not-is_written.false-raw
-
-pub store-requires : goal.store-requires
-store-requires c = c.requires (written (goal.at.store-requires c).Else-not-is_written)
+pub returns-in_err-written : goal.returns-in_err-written
+unfolding answer_case stored_in
+returns-in_err-written c =
+    let p = err_from_is_err_and c.from_residual.result c.from_residual.ensures.1 in
+    record { says = rw (p.1, p.2, c.in_err-written.was); holds = rw c.in_err-written.was }
 
 pub returns : goal.returns
+unfolding answer_case stored_in slot_length
 returns c =
-    record {
-      says = refl;
-      holds = c.store.ensures ∙ rw (written (goal.at.returns c).Else-not-is_written);
-    }
+    record { says = rw (c.in_ok-written.was, c.in_ok-written.written-is); holds = rw c.in_ok-written.was c.store.ensures }

@@ -1,37 +1,29 @@
 -- `prepare_by_bound` meets its contract: the questions ahead of the last, then the reduction. Assumes nothing.
-use mathlib.Core.Path.{◌≡◌, sym, ap, ◌∙◌}
-use Rattle.model.specs.Slot.{slot_length}
-use Rattle.model.specs.Questions.{accepted, outcome}
-use Rattle.model.specs.Calls.{asked_case, query_outcome}
-use Rattle.preparing.proofs.Answering.{ahead_of10, refused_bound, bound_in_order, bound_laid_out}
+use mathlib.Core.Path.{sym}
+use Rattle.std.proofs.lemmas.Result.{err_from_is_err_and}
+use Rattle.model.specs.Calls.{answer_case}
+use Rattle.theory.proofs.Refusals.{outcome_accepted}
+use Rattle.preparing.proofs.Answering.{refused_bound, bound_in_order, bound_laid_out}
 use Rattle.preparing.proofs.prepare_by_bound.Goals as goal
-use Rattle.preparing.proofs.prepare_by_bound.Goals.{In-Passed}
 
--- those ahead of the last are passed
-early : (c : In-Passed) →
+pub returns-in_err-kind : goal.returns-in_err-kind
+unfolding answer_case
+returns-in_err-kind c =
     let a = c.args in
-    outcome (ahead_of10 a.query a.log.now a.room) (tt {0}) ≡ accepted tt
-unfolding asked_case
-early c =
-    sym (c.ask-asked.ensures _ c.ask_bound-rule.ensures) ∙ ap asked_case c.in-Passed.is
+    let p = err_from_is_err_and c.from_residual.result c.from_residual.ensures.1 in
+    let says = sym (c.in_err-kind.ensures _ c.ask_bound-rule.ensures) in
+    rw (p.1, p.2) (refused_bound a.query a.log.now a.room _ _ says)
 
 pub reduce-requires : goal.reduce-requires
-reduce-requires c = bound_in_order _ _ _ (early c)
-
-pub returns-in-Passed : goal.returns-in-Passed
-unfolding query_outcome
-returns-in-Passed c =
+unfolding answer_case
+reduce-requires c =
     let a = c.args in
-    let r = bound_laid_out a.query a.log.now a.room (early (goal.at.returns-in-Passed c).In-Passed) c.reduce.result c.reduce.ensures in
-    record { answer_value = r.0; bytes_value = r.1 }
+    let (passed, same) = outcome_accepted _ _ _ (sym (c.in_ok-kind.ensures _ c.ask_bound-rule.ensures)) in
+    record { in_order = bound_in_order a.query a.log.now a.room passed; of_kind = same }
 
-pub returns-in-Refused : goal.returns-in-Refused
-unfolding asked_case query_outcome slot_length
-returns-in-Refused c =
+pub returns : goal.returns
+unfolding answer_case
+returns c =
     let a = c.args in
-    let says = sym (c.ask-asked.ensures _ c.ask_bound-rule.ensures) ∙ ap asked_case c.in-Refused.is in
-    let r = refused_bound a.query a.log.now a.room _ says in
-    record {
-      answer_value = r.0;
-      bytes_value = c.no_slot.ensures ∙ r.1;
-    }
+    let (passed, same) = outcome_accepted _ _ _ (sym (c.in_ok-kind.ensures _ c.ask_bound-rule.ensures)) in
+    bound_laid_out a.query a.log.now a.room passed c.reduce.result c.reduce.ensures

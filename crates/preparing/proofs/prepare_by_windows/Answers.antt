@@ -1,40 +1,32 @@
 -- `prepare_by_windows` meets its contract: the questions ahead of the last, then the rows by windows. Assumes nothing.
-use mathlib.Core.Path.{◌≡◌, sym, ap, ◌∙◌}
-use Rattle.model.specs.Slot.{slot_length}
-use Rattle.model.specs.Questions.{accepted, outcome}
-use Rattle.model.specs.Calls.{asked_case, ruled_outcome}
-use Rattle.preparing.proofs.Answering.{ahead_of20, refused_windows, windows_in_order, windows_laid_out}
+use mathlib.Core.Path.{sym}
+use Rattle.std.proofs.lemmas.Result.{err_from_is_err_and}
+use Rattle.model.specs.Calls.{answer_case}
+use Rattle.theory.proofs.Refusals.{outcome_accepted}
+use Rattle.preparing.proofs.Answering.{refused_windows, windows_in_order, windows_laid_out}
 use Rattle.preparing.proofs.prepare_by_windows.Goals as goal
-use Rattle.preparing.proofs.prepare_by_windows.Goals.{In-Passed}
 
 pub ask_windows-rule-requires : goal.ask_windows-rule-requires
 ask_windows-rule-requires c = c.requires
 
--- those ahead of the last are passed
-early : (c : In-Passed) →
+pub returns-in_err-kind : goal.returns-in_err-kind
+unfolding answer_case
+returns-in_err-kind c =
     let a = c.args in
-    outcome (ahead_of20 a.query a.log.now a.room c.requires) (tt {0}) ≡ accepted tt
-unfolding asked_case
-early c =
-    sym (c.ask-asked.ensures _ c.ask_windows-rule.ensures) ∙ ap asked_case c.in-Passed.is
+    let p = err_from_is_err_and c.from_residual.result c.from_residual.ensures.1 in
+    let says = sym (c.in_err-kind.ensures _ c.ask_windows-rule.ensures) in
+    rw (p.1, p.2) (refused_windows a.query a.log.now a.room c.requires _ _ says)
 
 pub list-requires : goal.list-requires
-list-requires c = windows_in_order _ _ _ c.requires (early c)
-
-pub returns-in-Passed : goal.returns-in-Passed
-unfolding ruled_outcome
-returns-in-Passed c =
+unfolding answer_case
+list-requires c =
     let a = c.args in
-    let r = windows_laid_out a.query a.log.now a.room c.requires (early (goal.at.returns-in-Passed c).In-Passed) c.list.result c.list.ensures in
-    record { answer_value = r.0; bytes_value = r.1 }
+    let (passed, same) = outcome_accepted _ _ _ (sym (c.in_ok-kind.ensures _ c.ask_windows-rule.ensures)) in
+    record { in_order = windows_in_order a.query a.log.now a.room c.requires passed; of_kind = same }
 
-pub returns-in-Refused : goal.returns-in-Refused
-unfolding asked_case ruled_outcome slot_length
-returns-in-Refused c =
+pub returns : goal.returns
+unfolding answer_case
+returns c =
     let a = c.args in
-    let says = sym (c.ask-asked.ensures _ c.ask_windows-rule.ensures) ∙ ap asked_case c.in-Refused.is in
-    let r = refused_windows a.query a.log.now a.room c.requires _ says in
-    record {
-      answer_value = r.0;
-      bytes_value = c.no_slot.ensures ∙ r.1;
-    }
+    let (passed, same) = outcome_accepted _ _ _ (sym (c.in_ok-kind.ensures _ c.ask_windows-rule.ensures)) in
+    windows_laid_out a.query a.log.now a.room c.requires passed c.list.result c.list.ensures

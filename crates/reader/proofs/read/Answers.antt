@@ -1,59 +1,49 @@
 -- `reader::read` meets its contract: the slot's questions, then header and rows. Assumes nothing.
-use Prim.Native.Nat.{ℕ, ◌≤◌}
-use mathlib.Core.List.{List}
+use Prim.Native.Nat.{◌≤◌}
 use mathlib.Core.Path.{◌≡◌, sym, ap, ◌∙◌}
-use native.Mathlib.Omega.{arith}
-use borrow.Author.Rules.{rules}
-use lib.ListN.{length, get_or}
-use Rattle.model.specs.Slot.{slot_mark, slot_kind, slot_count, slot_error, slot_rows}
+use lib.ListN.{length}
+use Rattle.std.proofs.lemmas.Result.{err_from_is_err_and}
+use Rattle.model.specs.Slot.{slot_count, slot_rows}
 use Rattle.model.specs.Questions.{accepted, slot_questions}
-use Rattle.model.specs.Calls.{asked_case, read_case, read_outcome, read_rows}
+use Rattle.model.specs.Calls.{answer_case, header_in, read_outcome, read_rows, Header}
 use Rattle.model.specs.Arrays.{row_array}
-use Rattle.theory.proofs.Refusals.{refused_same, refused_lent, passed_same, passed_lent}
-use Rattle.theory.proofs.Asking.{answer}
+use Rattle.theory.proofs.Refusals.{refused_same, passed_same, passed_lent}
 use Rattle.slot.proofs.Answers.{slot_sized}
 use Rattle.reader.proofs.read.Goals as goal
-use Rattle.reader.proofs.read.Goals.{In-Passed}
+use Rattle.reader.proofs.read.Goals.{After-header_of-header, In_ok-ask}
 
--- the slot, once its questions are passed
-abbrev Slot : In-Passed → List ℕ
-Slot c = c.args.slot.now
+-- a slot that has passed its questions has room, and at most 64 rows
+sizes : (c : In_ok-ask) → (768 ≤ length c.args.slot.now) × (slot_count c.args.slot.now ≤ 64)
+unfolding answer_case
+sizes c = slot_sized c.args.slot.now (sym c.in_ok-ask.ensures)
 
-passed : (c : In-Passed) → answer (slot_questions (Slot c)) ≡ accepted tt
-unfolding asked_case
-passed c = sym c.ask-asked.ensures ∙ ap asked_case c.in-Passed.is
+-- the count is that of the header
+counted : (c : After-header_of-header) → c.header_of-header.result.rows ≡ slot_count c.args.slot.now
+unfolding header_in
+counted c = ap (λ (h : Header). h.rows) c.header_of-header.ensures
 
-sizes : (c : In-Passed) → (768 ≤ length (Slot c)) × (get_or (Slot c) 3 0 ≤ 64)
-unfolding slot_count
-sizes c = slot_sized (Slot c) (passed c)
-
-pub bounds-slot-3 : goal.bounds-slot-3
-bounds-slot-3 c = let s = sizes (goal.at.bounds-slot-3 c).In-Passed in omega arith
+pub header_of-header-requires : goal.header_of-header-requires
+header_of-header-requires c = (sizes (goal.at.header_of-header-requires c).In_ok-ask).0
 
 pub read_rows-rows-requires : goal.read_rows-rows-requires
-read_rows-rows-requires c = let s = sizes (goal.at.read_rows-rows-requires c).In-Passed in search rules
+read_rows-rows-requires c =
+    rw (counted (goal.at.read_rows-rows-requires c).After-header_of-header) (sizes (goal.at.read_rows-rows-requires c).In_ok-ask)
 
-pub bounds-slot-1 : goal.bounds-slot-1
-bounds-slot-1 c = let s = sizes (goal.at.bounds-slot-1 c).In-Passed in omega arith
+pub returns-in_err-ask-clause-says : goal.returns-in_err-ask-clause-says
+unfolding answer_case read_outcome
+returns-in_err-ask-clause-says c =
+    let p = err_from_is_err_and c.from_residual.result c.from_residual.ensures.1 in
+    rw (p.1, p.2) (sym (refused_same _ tt _ _ _ (sym c.in_err-ask.ensures)))
 
-pub bounds-slot-2 : goal.bounds-slot-2
-bounds-slot-2 c = let s = sizes (goal.at.bounds-slot-2 c).In-Passed in omega arith
+pub returns-clause-says : goal.returns-clause-says
+unfolding answer_case read_outcome
+returns-clause-says c =
+    ap accepted c.header_of-header.ensures
+    ∙ sym (passed_same (slot_questions c.args.slot.now) tt _ (sym c.in_ok-ask.ensures))
 
-pub eight-requires : goal.eight-requires
-eight-requires c = let s = sizes (goal.at.eight-requires c).In-Passed in search rules
-
-pub returns-in-Refused : goal.returns-in-Refused
-unfolding asked_case read_case read_outcome read_rows
-returns-in-Refused c =
-    let no = sym c.ask-asked.ensures ∙ ap asked_case c.in-Refused.is in
-    (sym (refused_same _ tt _ _ _ no), c.no_rows-rows.ensures ∙ ap row_array (sym (refused_lent _ tt _ _ _ _ no)))
-
-pub returns-in-Passed : goal.returns-in-Passed
-unfolding read_case read_outcome read_rows slot_rows slot_mark slot_kind slot_count slot_error
-returns-in-Passed c = (
-  rw (c.eight.ensures, c.wide-count.ensures)
-      (sym (passed_same (slot_questions (Slot (goal.at.returns-in-Passed c).In-Passed)) tt _ (passed (goal.at.returns-in-Passed c).In-Passed))),
-  c.read_rows-rows.ensures
-      ∙ rw c.wide-count.ensures
-      (ap row_array (sym (passed_lent (slot_questions (Slot (goal.at.returns-in-Passed c).In-Passed)) tt _ _ (passed (goal.at.returns-in-Passed c).In-Passed)))),
-)
+pub returns-clause-rows : goal.returns-clause-rows
+unfolding answer_case read_rows slot_rows
+returns-clause-rows c =
+    c.read_rows-rows.ensures
+    ∙ rw (counted (goal.at.returns-clause-rows c).After-header_of-header)
+    (ap row_array (sym (passed_lent (slot_questions c.args.slot.now) tt _ _ (sym c.in_ok-ask.ensures))))

@@ -1,6 +1,4 @@
--- `reader::read_rows` meets its contract. The invariant: the array holds the first `i` rows. The measure is the number of rows
--- that are left. Assumes nothing.
-use Prim.Native.Nat.{◌-◌, ◌≤◌}
+-- `reader::read_rows` meets its contract. The invariant: the array holds the first `i` rows. Assumes nothing.
 use mathlib.Core.Path.{◌≡◌}
 use Rattle.model.specs.Common.{list_from}
 use Rattle.model.specs.Slot.{slot_row}
@@ -8,7 +6,4 @@ use Rattle.model.specs.Arrays.{row_array}
 use Rattle.reader.proofs.read_rows.Given as goal
 
 abbrev pub invariant-loop-i : goal.invariant-loop-i
-invariant-loop-i l = (l.i ≤ l.count) × (l.rows ≡ row_array (list_from 0 l.i (slot_row l.slot)))
-
-abbrev pub decreases-loop-i : goal.decreases-loop-i
-decreases-loop-i l = l.count - l.i
+invariant-loop-i l = l.rows ≡ row_array (list_from 0 l.i (slot_row l.slot))

@@ -3,6 +3,7 @@ use mathlib.Core.Path.{◌≡◌}
 use native.Mathlib.Omega.{arith}
 use borrow.Author.Rules.{rules}
 use lib.ListN.{length}
+use Rattle.model.specs.Calls.{number}
 use Rattle.text.specs.Text.{refusal_text}
 use Rattle.text.specs.Put.{Room}
 use Rattle.text.proofs.Putting.{put_whole}
@@ -11,11 +12,11 @@ use Rattle.report.proofs.refuse.Goals as goal
 use Rattle.report.proofs.refuse.Goals.{After-put_refusal-arg-1}
 
 -- the buffer has the room
-room : (c : After-put_refusal-arg-1) → Room c.args.out.now 0 (refusal_text c.args.question 0)
+room : (c : After-put_refusal-arg-1) → Room c.args.out.now 0 (refusal_text (number c.args.question) 0)
 room c =
     let out = c.args.out.now in
     let size : 4096 ≡ length out = search rules in
-    room_refusal out c.args.question 0 (omega arith)
+    room_refusal out (number c.args.question) 0 (omega arith)
 
 pub put_refusal-requires : goal.put_refusal-requires
 put_refusal-requires c = room c

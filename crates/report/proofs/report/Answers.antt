@@ -6,6 +6,7 @@ use native.Mathlib.Omega.{arith}
 use borrow.Author.Tests.{lt-ltb, le-ltb}
 use lib.ListN.{length, drop, take, length-drop}
 use lib.Seq.{take_all, length-take-le}
+use Rattle.model.specs.Calls.{number}
 use Rattle.report.specs.Report.{profile_text, most_input, head_length}
 use Rattle.report.proofs.report.Goals as goal
 
@@ -14,7 +15,7 @@ counts : (r : ℕ) (out : List ℕ) → r ≤ length out → (r ≤ length out) 
 counts r out le = (le, sym (length-take-le r out le))
 
 pub returns-then-input-gt65536 : goal.returns-then-input-gt65536
-unfolding profile_text most_input
+unfolding profile_text most_input number
 returns-then-input-gt65536 c =
     let e = c.refuse.ensures in
     record {
@@ -23,7 +24,7 @@ returns-then-input-gt65536 c =
     }
 
 pub returns-then-input-lt4 : goal.returns-then-input-lt4
-unfolding profile_text most_input head_length
+unfolding profile_text most_input head_length number
 returns-then-input-lt4 c =
     let e = c.refuse-then-input-lt4.ensures in
     record {

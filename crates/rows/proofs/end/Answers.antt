@@ -5,7 +5,7 @@ use Rattle.rows.proofs.end.Goals as goal
 
 pub returns-then-next-count : goal.returns-then-next-count
 unfolding end_before
-returns-then-next-count c = rw (lt-ltb _ _ c.if-next-count.true) c.wide.ensures
+returns-then-next-count c = rw (lt-ltb _ _ c.if-next-count.true) c.from.ensures
 
 pub returns-else-next-count : goal.returns-else-next-count
 unfolding end_before

@@ -1,7 +1,7 @@
 -- `row` meets its contract. Assumes nothing.
 use mathlib.Core.Path.{sym, ap, ◌∙◌, subst}
 use native.Mathlib.Omega.{arith}
-use Rattle.model.specs.Calls.{row_of_span}
+use Rattle.model.specs.Calls.{kind_number, row_of_span}
 use Rattle.model.specs.Arrays.{span_in}
 use Rattle.model.specs.Blocks.{value_for, row_of, row_value}
 use Rattle.model.specs.Room.{Room}
@@ -29,6 +29,5 @@ returns c =
     let a = c.args in
     let value =
     c.row_value-value.ensures
-    ∙ ap (value_for a.kind)
-    (c.block_totals-block.ensures ∙ sym (totals_plain a.groups.now a.firsts.now a.lasts.now a.values.now a.j a.i)) in
+    ∙ ap (value_for (kind_number a.kind)) (c.block_totals-block.ensures ∙ sym (totals_plain a.segments.now a.j a.i)) in
     rw value

@@ -5,7 +5,7 @@ use Rattle.rules.proofs.bound_is_known.Goals as goal
 
 pub returns-in-Rows : goal.returns-in-Rows
 unfolding bound_known most_rows
-returns-in-Rows c = rw c.in-Rows.is
+returns-in-Rows c = rw (c.in-Rows.is, c.from.ensures)
 
 pub returns-in-Share : goal.returns-in-Share
 unfolding bound_known

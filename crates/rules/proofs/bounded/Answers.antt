@@ -4,4 +4,4 @@ use Rattle.rules.proofs.bounded.Goals as goal
 
 pub returns : goal.returns
 unfolding bounded_query
-returns c = rw (c.rule_of.ensures, c.no_frames.ensures, c.no_frames-2.ensures)
+returns c = rw (c.into.ensures, c.no_frames.ensures, c.no_frames-2.ensures)

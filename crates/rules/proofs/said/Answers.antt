@@ -1,13 +1,12 @@
 -- `rules::said` meets its contract. Assumes nothing.
-use mathlib.Core.Path.{ap, ◌∙◌}
 use Rattle.model.specs.Questions.{ask, outcome}
-use Rattle.model.specs.Calls.{asked_case}
+use Rattle.model.specs.Calls.{answer_case}
 use Rattle.rules.proofs.said.Goals as goal
 
 pub returns-then-passed : goal.returns-then-passed
-unfolding asked_case outcome ask
+unfolding answer_case outcome ask
 returns-then-passed c = rw c.if-passed.true
 
-pub returns : goal.returns
-unfolding asked_case outcome ask
-returns c = ap asked_case c.no.ensures ∙ rw c.if-passed.false
+pub returns-else-passed : goal.returns-else-passed
+unfolding answer_case outcome ask
+returns-else-passed c = rw (c.no.ensures, c.if-passed.false)

@@ -7,18 +7,17 @@ use Rattle.model.specs.Spans.{frame_count}
 use Rattle.model.specs.Segments.{frames_from}
 use Rattle.model.specs.Arrays.{segments_in}
 use Rattle.tally.specs.Tally.{owns_in, own_value}
-use Rattle.segments.specs.Steps.{joined, arrays_of, Made}
+use Rattle.model.specs.Calls.{kind_number}
+use Rattle.segments.specs.Steps.{joined, Made}
 use Rattle.segments.proofs.find_group.Given as goal
 
-abbrev pub invariant-loop-here : goal.invariant-loop-here
-invariant-loop-here l =
+abbrev pub invariant-loop-kind : goal.invariant-loop-kind
+invariant-loop-kind l =
+    let val = own_value (kind_number l.kind) (owns_in l.own) in
     (l.a ≤ 65535)
-    × Made (arrays_of l.groups l.firsts l.lasts l.values l.made)
-    × (joined (segments_in (arrays_of l.groups l.firsts l.lasts l.values l.made)
-    ++ frames_from (own_value l.kind (owns_in l.own_firsts l.own_lasts l.own_loads l.own)) l.group l.a (frame_count - l.a) [])
-    ≡ joined (segments_in (arrays_of l.initial.groups l.initial.firsts l.initial.lasts l.initial.values l.initial.made)
-    ++ frames_from (own_value l.kind (owns_in l.own_firsts l.own_lasts l.own_loads l.own)) l.group 0 frame_count []))
+    × Made l.made
+    × (joined (segments_in l.made ++ frames_from val l.group l.a (frame_count - l.a) [])
+    ≡ joined (segments_in l.initial.made ++ frames_from val l.group 0 frame_count []))
 
-abbrev pub decreases-loop-here : goal.decreases-loop-here
-decreases-loop-here l =
-    65535 - l.a
+abbrev pub decreases-loop-kind : goal.decreases-loop-kind
+decreases-loop-kind l = 65535 - l.a

@@ -1,5 +1,4 @@
 -- `segments::joins` meets its contract. Assumes nothing.
-use Prim.Native.Nat.{ℕ}
 use native.Mathlib.Numerals.{add-one}
 use Rattle.model.specs.Spans.{adjacent}
 use Rattle.model.specs.Calls.{segment_span}
@@ -8,4 +7,4 @@ use Rattle.segments.proofs.joins.Goals as goal
 
 pub returns : goal.returns
 unfolding joins adjacent segment_span
-returns c = λ (first : ℕ). simp (c.wide-2.ensures, c.wide.ensures, add-one)
+returns c = simp (c.from.ensures, c.from-2.ensures, add-one)

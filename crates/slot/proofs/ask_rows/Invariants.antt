@@ -1,6 +1,6 @@
 -- `slot::ask_rows` meets its contract. The invariant: row `i` may begin at place `least`, and what the questions of the
--- rows from `i` on answer is what those of all rows do. The measure is the number of rows that are left. Assumes nothing.
-use Prim.Native.Nat.{◌-◌, ◌≤◌}
+-- rows from `i` on answer is what those of all rows do. Assumes nothing.
+use Prim.Native.Nat.{◌-◌}
 use mathlib.Core.Path.{◌≡◌}
 use Rattle.model.specs.Questions.{each, row_questions}
 use Rattle.slot.specs.Places.{least_place}
@@ -9,9 +9,5 @@ use Rattle.slot.proofs.ask_rows.Given as goal
 
 abbrev pub invariant-loop-i : goal.invariant-loop-i
 invariant-loop-i l =
-    (l.i ≤ l.count)
-    × (l.least ≡ least_place l.slot l.i)
+    (l.least ≡ least_place l.slot l.i)
     × (answer (each (row_questions l.slot) l.i (l.count - l.i)) ≡ answer (each (row_questions l.slot) 0 l.count))
-
-abbrev pub decreases-loop-i : goal.decreases-loop-i
-decreases-loop-i l = l.count - l.i

@@ -6,5 +6,5 @@ use Rattle.slot.proofs.marked.Goals as goal
 pub returns : goal.returns
 returns c =
     let a = c.args in
-    rw c.two.ensures
+    rw (c.two.ensures, c.from_le_bytes.ensures)
     (marked_number a.bytes.now a.at a.a a.b (omega (arith, c.type_inv.bytes a.at)) (omega arith))

@@ -1,56 +1,53 @@
 -- `reduce` meets its contract. Assumes nothing.
 use Prim.Native.Nat.{ℕ}
 use mathlib.Core.List.{List}
-use mathlib.Core.Path.{sym, ◌∙◌}
-use native.Mathlib.Omega.{arith}
-use borrow.Author.Tests.{not-true, not-false}
+use mathlib.Core.Path.{◌≡◌, ◌∙◌, sym, ap}
+use Rattle.model.specs.Arrays.{segments_in}
+use Rattle.model.specs.Calls.{kind_number}
 use Rattle.model.specs.Spans.{Span}
-use Rattle.model.specs.Arrays.{spans_in}
 use Rattle.model.specs.Split.{error_of, gap_below, runs}
+use Rattle.choice.specs.Bounds.{covers_runs}
 use Rattle.split.specs.Ready.{Counted}
 use Rattle.split.proofs.Measuring.{few_segments, no_runs, no_segments_lem, too_few_lem, reduces}
 use Rattle.split.proofs.reduce.Goals as goal
-use Rattle.split.proofs.reduce.Goals.{Else-not-covers_runs, Start}
+use Rattle.split.proofs.reduce.Goals.{After-runs-runs, In_ok-task, Start}
 
 abbrev segs : Start → List (Span ℕ)
-segs s = spans_in s.args.groups.now s.args.firsts.now s.args.lasts.now s.args.values.now s.args.n
+segs s = segments_in s.args.segments.now
 
-pub returns-then-n-eq0 : goal.returns-then-n-eq0
-returns-then-n-eq0 c =
-    let a = c.args in
-    let nothing = no_segments_lem (error_of a.kind (segs (goal.at.returns-then-n-eq0 c).Start)) (gap_below (segs (goal.at.returns-then-n-eq0 c).Start)) a.n (runs (segs (goal.at.returns-then-n-eq0 c).Start)) a.bound a.cuts.now c.if-n-eq0.true (no_runs a.groups.now a.firsts.now a.lasts.now a.values.now a.n c.if-n-eq0.true) in
-    reduces (c.nothing.ensures ∙ nothing.0, nothing.1)
+abbrev err : Start → ℕ → ℕ → ℕ
+err s = error_of (kind_number s.args.kind) (segs s)
+
+runs_is : (c : After-runs-runs) → c.runs-runs.result ≡ runs (segments_in c.args.segments.now)
+unfolding segments_in
+runs_is c = c.runs-runs.ensures c.args.segments.now.values
+
+pub returns-then-segments-eq0 : goal.returns-then-segments-eq0
+returns-then-segments-eq0 c =
+    let s = (goal.at.returns-then-segments-eq0 c).Start in
+    reduces
+    (no_segments_lem (err s) (gap_below (segs s)) _ _ c.args.bound c.args.cuts.now c.if-segments-eq0.true
+    (no_runs c.args.segments.now c.if-segments-eq0.true))
 
 pub runs-runs-requires : goal.runs-runs-requires
-runs-runs-requires c = let a = c.args in few_segments a.groups.now a.firsts.now a.lasts.now a.values.now a.n c.requires.measured.0
+runs-runs-requires c = few_segments c.args.segments.now c.requires.0
 
-pub returns-then-not-covers_runs : goal.returns-then-not-covers_runs
-returns-then-not-covers_runs c =
-    let few = sym c.covers_runs.ensures ∙ not-true _ c.if-not-covers_runs.true-raw in
-    let none_here = too_few_lem (error_of c.args.kind (segs (goal.at.returns-then-not-covers_runs c).Start)) (gap_below (segs (goal.at.returns-then-not-covers_runs c).Start)) c.args.n (runs (segs (goal.at.returns-then-not-covers_runs c).Start)) c.args.bound c.args.cuts.now (rw (c.runs-runs.ensures c.args.values.now) at few) in
-    reduces (c.refused.ensures ∙ none_here.0, none_here.1)
+pub returns-in_err-task : goal.returns-in_err-task
+returns-in_err-task c =
+    let s = (goal.at.returns-in_err-task c).Start in
+    let few = ap (covers_runs c.args.bound) (sym (runs_is (goal.at.returns-in_err-task c).After-runs-runs)) ∙ c.in_err-task.ensures in
+    let (none_here, cuts_stay) = too_few_lem (err s) (gap_below (segs s)) c.args.segments.now.count (runs (segs s)) c.args.bound c.args.cuts.now few in
+    reduces (c.from_residual.ensures ∙ none_here, cuts_stay)
 
--- the runs are counted, and each may have a row
-counted : (c : Else-not-covers_runs) →
-    let a = c.args in
-    Counted a.groups.now a.firsts.now a.lasts.now a.values.now a.n c.runs-runs.result a.bound
+-- the task is that of the segments
+counted : (c : In_ok-task) → Counted c.args.segments.now c.in_ok-task.task
 counted c =
-    record {
-      measured = c.requires.measured.0;
-      is_runs = c.runs-runs.ensures c.args.values.now;
-      some_segments = omega arith;
-      known = c.requires.measured.1;
-      covers = sym c.covers_runs.ensures ∙ not-false _ c.if-not-covers_runs.false-raw;
-    }
+    let (all, of_runs, of_bound) = c.in_ok-task.ensures in
+    record { measured = c.requires.0; all = all; is_runs = of_runs ∙ runs_is (goal.at.In_ok-task c).After-runs-runs }
 
 pub reduce_run-requires : goal.reduce_run-requires
-reduce_run-requires c = record {
-  counted = rw c.if-runs-eq1.true at (counted (goal.at.reduce_run-requires c).Else-not-covers_runs);
-  cuts_len = c.requires.cuts_len;
-}
+reduce_run-requires c =
+    (counted (goal.at.reduce_run-requires c).In_ok-task, c.in_ok-task.ensures.1 ∙ c.if-runs-eq1.true)
 
 pub tabulate-requires : goal.tabulate-requires
-tabulate-requires c = record {
-  counted = counted (goal.at.tabulate-requires c).Else-not-covers_runs;
-  cuts_len = c.requires.cuts_len;
-}
+tabulate-requires c = counted (goal.at.tabulate-requires c).In_ok-task

@@ -1,52 +1,52 @@
 -- `tabulate` meets its contract. Assumes nothing.
-use mathlib.Core.Path.{ap, ◌∙◌}
-use native.Mathlib.Omega.{arith}
-use lib.ListN.{length, length-replicate}
-use Rattle.model.specs.Arrays.{span_in}
-use Rattle.theory.proofs.SlotLaws.{length-list_from}
-use Rattle.choice.specs.Errors.{no_error}
-use Rattle.split.specs.Ready.{Ready, Lent}
-use Rattle.split.proofs.Measuring.{ready, reduced}
+use Prim.Native.Nat.{ℕ, ◌≤◌}
+use mathlib.Core.Path.{◌≡◌}
+use lib.Dec.{lit≤}
+use lib.ListN.{get_or}
+use Rattle.model.specs.Arrays.{segments_in}
+use Rattle.model.specs.Calls.{kind_number}
+use Rattle.model.specs.Split.{gap_below}
+use Rattle.triangle.specs.Places.{row_start}
+use Rattle.split.proofs.Sharing.{room_for}
+use Rattle.split.proofs.Measuring.{few_segments, ready, reduced_held}
 use Rattle.split.proofs.tabulate.Goals as goal
-use Rattle.split.proofs.tabulate.Goals.{After-gaps-gaps, After-no_column-column}
+use Rattle.split.proofs.tabulate.Goals.{After-gaps-gaps}
 
--- the segments with their gaps, and what is lent on
-ready_of : (c : After-gaps-gaps) → Ready c.args.kind c.args.firsts.now c.args.lasts.now c.args.values.now c.gaps-gaps.result c.args.n c.args.runs c.args.bound
-ready_of c = ready c.args.kind c.requires.counted c.gaps-gaps.result (c.gaps-gaps.ensures c.args.values.now)
-
-lent_of : (c : After-no_column-column) → Lent c.args.cuts.now c.no_column-column.result
-lent_of c =
-    record {
-      cuts_size = c.requires.cuts_len;
-      column_size = ap length c.no_column-column.ensures ∙ length-replicate 65 no_error;
-    }
+gaps_at : (c : After-gaps-gaps) (i : ℕ) → i ≤ c.args.segments.now.count
+    → get_or c.gaps-gaps.result i 0 ≡ gap_below (segments_in c.args.segments.now) i
+unfolding segments_in
+gaps_at c = c.gaps-gaps.ensures c.args.segments.now.values
 
 pub gaps-gaps-requires : goal.gaps-gaps-requires
-gaps-gaps-requires c = omega (arith, c.requires.counted.measured.few, length-list_from 0 c.args.n (span_in c.args.groups.now c.args.firsts.now c.args.lasts.now c.args.values.now))
+gaps-gaps-requires c = few_segments c.args.segments.now c.requires.measured
 
-pub up_to_8-requires : goal.up_to_8-requires
-up_to_8-requires c = record {
-  ready = (ready_of (goal.at.up_to_8-requires c).After-gaps-gaps, c.if-n-le8.true);
-  lent = lent_of (goal.at.up_to_8-requires c).After-no_column-column;
-}
+pub within-requires-clause-ready : goal.within-requires-clause-ready
+within-requires-clause-ready c = ready _ _ _ _ c.requires (gaps_at (goal.at.within-requires-clause-ready c).After-gaps-gaps)
 
-pub returns-then-n-le8 : goal.returns-then-n-le8
-returns-then-n-le8 c = reduced _ c.requires.counted c.gaps-gaps.result (c.gaps-gaps.ensures c.args.values.now) c.up_to_8.ensures
+pub within-requires-clause-room : goal.within-requires-clause-room
+unfolding row_start
+within-requires-clause-room c = (room_for c.args.task.segments 8 c.if-task-le8.true, lit≤ tt)
 
-pub up_to_32-requires : goal.up_to_32-requires
-up_to_32-requires c = record {
-  ready = (ready_of (goal.at.up_to_32-requires c).After-gaps-gaps, c.if-n-le32.true);
-  lent = lent_of (goal.at.up_to_32-requires c).After-no_column-column;
-}
+pub within-requires-then-task-le32-clause-ready : goal.within-requires-then-task-le32-clause-ready
+within-requires-then-task-le32-clause-ready c =
+    ready _ _ _ _ c.requires (gaps_at (goal.at.within-requires-then-task-le32-clause-ready c).After-gaps-gaps)
 
-pub returns-then-n-le32 : goal.returns-then-n-le32
-returns-then-n-le32 c = reduced _ c.requires.counted c.gaps-gaps.result (c.gaps-gaps.ensures c.args.values.now) c.up_to_32.ensures
+pub within-requires-then-task-le32-clause-room : goal.within-requires-then-task-le32-clause-room
+unfolding row_start
+within-requires-then-task-le32-clause-room c = (room_for c.args.task.segments 32 c.if-task-le32.true, lit≤ tt)
 
 pub large-requires : goal.large-requires
-large-requires c = record {
-  ready = ready_of (goal.at.large-requires c).After-gaps-gaps;
-  lent = lent_of (goal.at.large-requires c).After-no_column-column;
-}
+large-requires c = ready _ _ _ _ c.requires (gaps_at (goal.at.large-requires c).After-gaps-gaps)
 
-pub returns : goal.returns
-returns c = reduced _ c.requires.counted c.gaps-gaps.result (c.gaps-gaps.ensures c.args.values.now) c.large.ensures
+pub returns-then-task-le8 : goal.returns-then-task-le8
+returns-then-task-le8 c =
+    reduced_held (kind_number c.args.kind) c.requires _ (gaps_at (goal.at.returns-then-task-le8 c).After-gaps-gaps) c.within.ensures
+
+pub returns-then-task-le32 : goal.returns-then-task-le32
+returns-then-task-le32 c =
+    reduced_held (kind_number c.args.kind) c.requires _ (gaps_at (goal.at.returns-then-task-le32 c).After-gaps-gaps)
+    c.within-then-task-le32.ensures
+
+pub returns-else-task-le32 : goal.returns-else-task-le32
+returns-else-task-le32 c =
+    reduced_held (kind_number c.args.kind) c.requires _ (gaps_at (goal.at.returns-else-task-le32 c).After-gaps-gaps) c.large.ensures

@@ -8,7 +8,7 @@ use Rattle.table.proofs.fill.Given as goal
 
 abbrev pub invariant-scan : goal.invariant-scan
 invariant-scan l =
-    Scanning (error_at l.errors) (gap_at l.gaps) l.n l.runs l.k l.row l.i l.low l.at l.best × (l.start ≡ row_start l.i)
+    Scanning (error_at l.errors) (gap_at l.gaps) l.task.segments l.task.runs l.k l.row l.i l.low l.at l.best × (l.start ≡ row_start l.i)
 
 abbrev pub decreases-scan : goal.decreases-scan
 decreases-scan l =
@@ -16,14 +16,11 @@ decreases-scan l =
 
 abbrev pub invariant-loop-i : goal.invariant-loop-i
 invariant-loop-i l =
-    Cells (error_at l.errors) (gap_at l.gaps) l.n l.runs l.k l.row l.table l.weighed l.i
-
-abbrev pub decreases-loop-i : goal.decreases-loop-i
-decreases-loop-i l = l.i
+    Cells (error_at l.errors) (gap_at l.gaps) l.task.segments l.task.runs l.k l.row l.table l.weighed l.i
 
 abbrev pub invariant-loop-row : goal.invariant-loop-row
 invariant-loop-row l =
-    Filled (error_at l.errors) (gap_at l.gaps) l.n l.runs l.bound l.last l.row l.column l.table l.weighed l.k
+    Filled (error_at l.errors) (gap_at l.gaps) l.task l.last l.row l.column l.table l.weighed l.k
 
 abbrev pub decreases-loop-row : goal.decreases-loop-row
 decreases-loop-row l =

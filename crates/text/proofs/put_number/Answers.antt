@@ -1,34 +1,15 @@
--- `put_number` meets its contract: the digits that the kit gives are the number's, and they are copied to their place.
--- Assumes nothing.
-use Prim.Native.Nat.{ℕ, ◌+◌}
-use mathlib.Core.Path.{◌≡◌, ap, ◌∙◌}
-use native.Mathlib.Nat.{le_refl}
-use native.Mathlib.Omega.{arith}
-use borrow.Rule.Slice.PartMut.{mid_len}
-use lib.ListN.{length, take}
+-- `put_number` meets its contract: the digits that the library gives are the number's. Assumes nothing.
+use mathlib.Core.Path.{◌≡◌, ◌∙◌}
 use Rattle.text.specs.Text.{decimal}
-use Rattle.text.proofs.Digits.{few_digits, spelled}
-use Rattle.text.proofs.Putting.{put_copied}
+use Rattle.text.proofs.Digits.{spelled}
 use Rattle.text.proofs.put_number.Goals as goal
-use Rattle.text.proofs.put_number.Goals.{After-decimal-count}
+use Rattle.text.proofs.put_number.Goals.{After-as_bytes}
 
--- the digits are the number's
-digits_are : (c : After-decimal-count) → take c.decimal-count.result c.decimal-count.new.out ≡ decimal c.args.n
-unfolding decimal
-digits_are c =
-    let n = c.args.n in
-    let e = c.decimal-count.ensures in
-    e.digits ∙ spelled 20 c.decimal-count.result n e.len (few_digits c.decimal-count.result n e.len (omega arith))
+digits_are : (c : After-as_bytes) → c.as_bytes.result.now ≡ decimal c.args.n
+digits_are c = c.as_bytes.ensures.value ∙ c.format-digits.ensures.text ∙ spelled c.args.n c.ranges.n.fits
 
--- as many as are counted
-size : (c : After-decimal-count) → c.decimal-count.result ≡ length (decimal c.args.n)
-size c = c.decimal-count.ensures.in_bounds.1 ∙ ap length (digits_are c)
-
-pub copy-requires : goal.copy-requires
-copy-requires c =
-    let part = mid_len c.args.at (length c.args.out.now) c.args.out.now (le_refl _) in
-    omega (arith, part, size (goal.at.copy-requires c).After-decimal-count, c.requires.fits)
+pub put_bytes-requires : goal.put_bytes-requires
+put_bytes-requires c = rw (digits_are (goal.at.put_bytes-requires c).After-as_bytes) c.requires
 
 pub returns : goal.returns
-returns c =
-    put_copied c.requires (rw (digits_are (goal.at.returns c).After-decimal-count) at c.copy.ensures) (ap (λ (k : ℕ). c.args.at + k) (size (goal.at.returns c).After-decimal-count))
+returns c = rw (digits_are (goal.at.returns c).After-as_bytes) at c.put_bytes.ensures

@@ -1,11 +1,11 @@
 -- The loop's invariant: the lines that are left complete those of all rows. Assumes nothing.
-use Prim.Native.Nat.{◌≤◌}
-use Rattle.model.specs.Arrays.{rows_in}
+use lib.ListN.{drop}
+use mathlib.Core.List.{map}
+use Rattle.model.specs.Calls.{row_span}
 use Rattle.text.specs.Text.{rows_text}
 use Rattle.text.proofs.Putting.{Left}
-use Rattle.text.proofs.Lines.{rows_from}
 use Rattle.text.proofs.put_rows.Given as goal
 
-abbrev pub invariant-loop-i : goal.invariant-loop-i
-invariant-loop-i l =
-    Left l.initial.out l.at (rows_text (rows_in l.rows l.count)) l.out l.next (rows_from l.rows l.count l.i) × (l.i ≤ l.count)
+abbrev pub invariant-loop-row : goal.invariant-loop-row
+invariant-loop-row l =
+    Left l.initial.out l.initial.next (rows_text (map row_span l.rows)) l.out l.next (rows_text (map row_span (drop l.row-index l.rows)))

@@ -1,5 +1,5 @@
 -- `twins::differs` meets its contract. The loop's invariant: the keys so far, with those left, differ as all do. Assumes nothing.
-use Prim.Native.Nat.{ℕ, ◌-◌, ◌≤◌}
+use Prim.Native.Nat.{ℕ, ◌-◌}
 use mathlib.Core.Bool.{Bool, ◌&&◌, not}
 use mathlib.Core.List.{List}
 use mathlib.Core.Path.{◌≡◌}
@@ -14,7 +14,4 @@ other log index j = not (eqb (key_of log j) (key_of log index))
 
 abbrev pub invariant-loop-i : goal.invariant-loop-i
 invariant-loop-i l =
-    (l.i ≤ l.index) × (l.own ≡ key_of l.log l.index) × (l.new && every (other l.log l.index) l.i (l.index - l.i) ≡ new_in l.log l.index)
-
-abbrev pub decreases-loop-i : goal.decreases-loop-i
-decreases-loop-i l = l.index - l.i
+    (l.own ≡ key_of l.log l.index) × (l.new && every (other l.log l.index) l.i (l.index - l.i) ≡ new_in l.log l.index)

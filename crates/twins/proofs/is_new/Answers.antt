@@ -7,39 +7,39 @@ use lib.ListN.{get_or, set}
 use Rattle.twins.specs.Keys.{key_of, Noted}
 use Rattle.twins.proofs.Keys.{new_remainder, old_key, noted_more, noted_still}
 use Rattle.twins.proofs.is_new.Goals as goal
-use Rattle.twins.proofs.is_new.Goals.{After-wide-first}
+use Rattle.twins.proofs.is_new.Goals.{After-from-first}
 
 -- what is noted for the key's remainder, and that it is no more than the records ahead
-noted : (w : After-wide-first)
+noted : (w : After-from-first)
     →
-    (w.wide-first.result ≡ get_or w.args.firsts.now (key_of w.args.log.now w.args.index % 1021) 0) × (w.wide-first.result ≤ w.args.index)
+    (w.from-first.result ≡ get_or w.args.firsts.now (key_of w.args.log.now w.args.index % 1021) 0) × (w.from-first.result ≤ w.args.index)
 noted w =
-    let is = w.wide-first.ensures ∙ ap (λ (x : ℕ). get_or w.args.firsts.now (x % 1021) 0) w.key-own.ensures in
-    (is, omega (arith, w.requires.2.within (key_of w.args.log.now w.args.index % 1021)))
+    let is = w.from-first.ensures ∙ ap (λ (x : ℕ). get_or w.args.firsts.now (x % 1021) 0) w.key-own.ensures in
+    (is, omega (arith, w.requires.noted_ahead.within (key_of w.args.log.now w.args.index % 1021)))
 
 pub returns-then-first-eq0 : goal.returns-then-first-eq0
 returns-then-first-eq0 c =
     let log = c.args.log.now in
     let firsts = c.args.firsts.now in record {
-      value = sym (new_remainder log c.args.index firsts c.requires.2 (sym (noted (goal.at.returns-then-first-eq0 c).After-wide-first).0 ∙ c.if-first-eq0.true));
+      tells = sym (new_remainder log c.args.index firsts c.requires.noted_ahead (sym (noted (goal.at.returns-then-first-eq0 c).After-from-first).0 ∙ c.if-first-eq0.true));
       noted = subst (λ (x : ℕ). Noted log (c.args.index + 1) (set firsts (x % 1021) (c.args.index + 1))) (sym c.key-own.ensures)
-          (noted_more log c.args.index firsts c.requires.2);
+          (noted_more log c.args.index firsts c.requires.noted_ahead);
     }
 
 pub key-requires : goal.key-requires
-key-requires c = omega (arith, (noted (goal.at.key-requires c).After-wide-first).1)
+key-requires c = omega (arith, (noted (goal.at.key-requires c).After-from-first).1)
 
 pub returns-then-key-own : goal.returns-then-key-own
 returns-then-key-own c =
     record {
-      value = sym (old_key c.args.log.now c.args.index (c.wide-first.result - 1) (omega (arith, (noted (goal.at.returns-then-key-own c).After-wide-first).1))
+      tells = sym (old_key c.args.log.now c.args.index (c.from-first.result - 1) (omega (arith, (noted (goal.at.returns-then-key-own c).After-from-first).1))
           (sym c.key.ensures ∙ c.if-key-own.true ∙ c.key-own.ensures));
-      noted = noted_still c.args.log.now c.args.index c.args.firsts.now c.requires.2 (λ none. c.if-first-eq0.false ((noted (goal.at.returns-then-key-own c).After-wide-first).0 ∙ none));
+      noted = noted_still c.args.log.now c.args.index c.args.firsts.now c.requires.noted_ahead (λ none. c.if-first-eq0.false ((noted (goal.at.returns-then-key-own c).After-from-first).0 ∙ none));
     }
 
 pub returns : goal.returns
 returns c =
     record {
-      value = c.differs.ensures;
-      noted = noted_still c.args.log.now c.args.index c.args.firsts.now c.requires.2 (λ none. c.if-first-eq0.false ((noted (goal.at.returns c).After-wide-first).0 ∙ none));
+      tells = c.differs.ensures;
+      noted = noted_still c.args.log.now c.args.index c.args.firsts.now c.requires.noted_ahead (λ none. c.if-first-eq0.false ((noted (goal.at.returns c).After-from-first).0 ∙ none));
     }

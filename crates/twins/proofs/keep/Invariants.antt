@@ -1,13 +1,9 @@
 -- `twins::keep` meets its contract. The loop's invariant: the firsts of the keys so far are set, and the records that are kept so far
 -- stand at the front of the buffer. Assumes nothing.
-use Prim.Native.Nat.{◌≤◌, ◌-◌}
 use Rattle.twins.specs.Keys.{Noted}
 use Rattle.twins.proofs.Keys.{Written}
 use Rattle.twins.proofs.keep.Given as goal
 
 abbrev pub invariant-loop-index : goal.invariant-loop-index
 invariant-loop-index l =
-    (l.index ≤ l.count) × Noted l.log l.index l.firsts × Written l.log l.index l.initial.buffer l.buffer l.at
-
-abbrev pub decreases-loop-index : goal.decreases-loop-index
-decreases-loop-index l = l.count - l.index
+    Noted l.log l.index l.firsts × Written l.log l.index l.initial.buffer l.buffer l.at

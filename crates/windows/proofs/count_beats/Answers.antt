@@ -5,4 +5,4 @@ use Rattle.windows.proofs.count_beats.Goals as goal
 
 pub returns : goal.returns
 unfolding beat_count frame_count
-returns c = rw (c.wide.ensures.0, c.wide-2.ensures.0, c.wide-3.ensures.0)
+returns c = rw (c.from.ensures, c.from-2.ensures, c.from-3.ensures)

@@ -13,14 +13,15 @@ returns-then-stop-eq65535 c =
       ended = λ k lt before. rw c.if-stop-eq65535.true (all_ended c.args.length c.args.start c.requires.0 k);
     }
 
-pub returns-then-next-i : goal.returns-then-next-i
-returns-then-next-i c =
+pub returns : goal.returns
+returns c =
     let a = c.args in
-    let later = rw (c.wide.ensures.0, c.wide-2.ensures.0, c.wide-3.ensures.0) at c.if-next-i.true in
-    rw (c.wide.ensures.0, c.wide-2.ensures.0, c.wide-3.ensures.0)
+    let within = next_within a.length a.start c.requires.0 a.stop c.requires.3 (omega arith) in
+    let later = rw (c.from.ensures, c.from-2.ensures, c.from-3.ensures) at c.max.ensures in
+    rw later
     (record {
-      more = later;
-      within = rw c.requires.2 (next_within a.length a.start c.requires.0 a.stop c.requires.3 (omega arith));
+      more = omega arith;
+      within = omega (arith, within, c.requires.2);
       begun = λ k lt before. later_begun a.length a.start c.requires.0 a.i k lt;
-      ended = λ k lt before. next_ended a.length a.start c.requires.0 a.stop c.requires.3 k before;
+      ended = λ k lt before. next_ended a.length a.start c.requires.0 a.stop c.requires.3 k (omega arith);
     })

@@ -1,19 +1,17 @@
 -- `walker::walked` meets its contract: each turn takes one step more. Assumes nothing.
-use Rattle.std.proofs.Common.{ap, ◌∙◌, arith}
+use Rattle.std.proofs.Common.{ap, ◌∙◌}
 use native.Mathlib.Numerals.{add-one}
 use Rattle.lent.specs.Walk.{number_after}
 use Rattle.lent.proofs.walker.walked.Goals as goal
 
-pub loop-taken-init : goal.loop-taken-init
+pub loop-init : goal.loop-init
 unfolding number_after
-loop-taken-init c = let new = c.new-walker.ensures in (omega arith, ap (λ r. r.now) new.0, new.1)
+loop-init c = let new = c.new-walker.ensures in (ap (λ r. r.now) new.0, new.1)
 
-pub loop-taken-preserved : goal.loop-taken-preserved
+pub loop-preserved : goal.loop-preserved
 unfolding number_after
-loop-taken-preserved c =
-    let was = c.loop-taken.invariant in
-    let step = c.step-stepped.ensures in (
-      omega arith,
-      ap (λ r. r.now) step.0 ∙ was.1,
-      step.1 ∙ rw (was.1, was.2, add-one c.loop-taken.taken),
+loop-preserved c =
+    let was = c.loop.invariant in (
+      ap (λ r. r.now) c.step.ensures.same_slot ∙ was.0,
+      c.step.ensures.goes_on ∙ rw (was.0, was.1, add-one c.loop.counter),
     )
