@@ -20,6 +20,9 @@
 
 enum { STACK = 1 << 20, FILL = 0xA5 };
 
+/* What the header says beside PACER_QUERY_STACK, of logs of at most 64 and at most 128 segments. */
+enum { QUERY_STACK_TO_64 = 48 * 1024, QUERY_STACK_TO_128 = 96 * 1024 };
+
 static _Alignas(4096) uint8_t stack[STACK];
 static ucontext_t here, there;
 
@@ -427,13 +430,16 @@ static size_t lookups_need(void)
 int main(void)
 {
     size_t needed;
-    static const unsigned sizes[] = {6, 8, 32, 64, 128, 255};
+    static const unsigned sizes[] = {6, 8, 32, 33, 64, 65, 128, 129, 255};
     printf("%-34s %8s %8s\n", "bytes of stack", "needed", "header");
     for (size_t i = 0; i < sizeof sizes / sizeof sizes[0]; i++) {
         char what[40];
         snprintf(what, sizeof what, "pacer_query, %u segments", sizes[i]);
         row(what, query_need(sizes[i]),
-            sizes[i] <= 32 ? PACER_SMALL_QUERY_STACK : PACER_QUERY_STACK);
+            sizes[i] <= 32    ? PACER_SMALL_QUERY_STACK
+            : sizes[i] <= 64  ? QUERY_STACK_TO_64
+            : sizes[i] <= 128 ? QUERY_STACK_TO_128
+                              : PACER_QUERY_STACK);
     }
 
     make_wide_log();

@@ -39,10 +39,10 @@ difference : (v r a d : ℕ) → squared v (pos r) + 2 * (v * r) ≡ v * v + r *
 difference v r a d apart (inl (low, high)) = rw (low, high) (omega (arith, rw (low, high) at apart))
 difference v r a d apart (inr (low, high)) = rw (low, high) (omega (arith, rw (low, high) at apart))
 
-squared_up : (v r : ℕ) → v ≤ r → squared v (pos r) ≡ (r - v) * (r - v)
+pub squared_up : (v r : ℕ) → v ≤ r → squared v (pos r) ≡ (r - v) * (r - v)
 squared_up v r le = difference v r v (r - v) (squared_pos v r) (inl (refl, omega arith))
 
-squared_down : (v r : ℕ) → r ≤ v → squared v (pos r) ≡ (v - r) * (v - r)
+pub squared_down : (v r : ℕ) → r ≤ v → squared v (pos r) ≡ (v - r) * (v - r)
 squared_down v r le = difference v r r (v - r) (squared_pos v r) (inr (refl, omega arith))
 
 -- as the library takes the difference

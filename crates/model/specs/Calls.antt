@@ -47,7 +47,7 @@ row_of_span s = record { group = s.group; first = s.first; last = s.last; value 
 unfoldable pub row_span : Row → Span ℕ
 row_span r = record { group = r.group; first = r.first; last = r.last; value = r.value }
 
--- The paper's number of each question.
+-- The paper's number of each question, and of what is none its own number.
 
 unfoldable pub number : Number → ℕ
 number question.Room = 1
@@ -76,6 +76,7 @@ number question.GreatestLoad = 23
 number question.SlotError = 24
 number question.Width = 25
 number question.PairCount = 26
+number (question.Other other) = other.number
 
 -- What a call answers: the number of the question that refused it, with its index, or what it gives.
 

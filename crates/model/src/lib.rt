@@ -9,7 +9,7 @@ ghost use Rattle.model.specs.Arrays.{segment_in, record_arrays, segment_arrays};
 
 pub mod other;
 
-use other::OtherKind;
+use other::{OtherKind, OtherQuestion};
 
 // The paper's limits.
 
@@ -200,44 +200,113 @@ pub struct RuledQuery {
     pub lasts: [u16; MOST_SCENES],
 }
 
-// The questions, by the paper's numbers.
+// The questions, in the order of the paper's numbers, 1 to 26. No call is refused with another number, but what is said of refusals is said
+// of every number.
 #[derive(Clone, Copy, PartialEq, Eq)]
 pub enum Question {
-    Room = 1,
-    Kind = 2,
-    Bound = 3,
-    LogLength = 4,
-    RecordCount = 5,
-    RecordMark = 6,
-    Group = 7,
-    FrameOrder = 8,
-    Load = 9,
-    EnoughRows = 10,
-    SlotMark = 11,
-    SlotKind = 12,
-    RowCount = 13,
-    RowMark = 14,
-    RowFields = 15,
-    RowOrder = 16,
-    Rest = 17,
-    WindowLength = 18,
-    Scenes = 19,
-    WindowRows = 20,
-    Twin = 21,
-    Coverage = 22,
-    GreatestLoad = 23,
-    SlotError = 24,
-    Width = 25,
-    PairCount = 26,
+    Room,
+    Kind,
+    Bound,
+    LogLength,
+    RecordCount,
+    RecordMark,
+    Group,
+    FrameOrder,
+    Load,
+    EnoughRows,
+    SlotMark,
+    SlotKind,
+    RowCount,
+    RowMark,
+    RowFields,
+    RowOrder,
+    Rest,
+    WindowLength,
+    Scenes,
+    WindowRows,
+    Twin,
+    Coverage,
+    GreatestLoad,
+    SlotError,
+    Width,
+    PairCount,
+    Other(OtherQuestion),
+}
+
+impl Question {
+    // The question of a number.
+    pub fn of(n: u8) -> Question
+        ensures { number result ≡ n }
+    {
+        match n {
+            1 => Question::Room,
+            2 => Question::Kind,
+            3 => Question::Bound,
+            4 => Question::LogLength,
+            5 => Question::RecordCount,
+            6 => Question::RecordMark,
+            7 => Question::Group,
+            8 => Question::FrameOrder,
+            9 => Question::Load,
+            10 => Question::EnoughRows,
+            11 => Question::SlotMark,
+            12 => Question::SlotKind,
+            13 => Question::RowCount,
+            14 => Question::RowMark,
+            15 => Question::RowFields,
+            16 => Question::RowOrder,
+            17 => Question::Rest,
+            18 => Question::WindowLength,
+            19 => Question::Scenes,
+            20 => Question::WindowRows,
+            21 => Question::Twin,
+            22 => Question::Coverage,
+            23 => Question::GreatestLoad,
+            24 => Question::SlotError,
+            25 => Question::Width,
+            26 => Question::PairCount,
+            0 | 27..=u8::MAX => Question::Other(OtherQuestion { number: n }),
+        }
+    }
 }
 
 // The paper's number of a question.
 impl From<Question> for u8 {
     ghost from_gives = { λ question n. n ≡ number question };
 
+    // It is not inlined: each call of C would have a table of the cases of its own.
+    #[inline(never)]
     fn from(question: Question) -> u8 {
-        // this is the conversion itself
-        question as u8
+        // each case is the conversion itself
+        match question {
+            Question::Room => 1,
+            Question::Kind => 2,
+            Question::Bound => 3,
+            Question::LogLength => 4,
+            Question::RecordCount => 5,
+            Question::RecordMark => 6,
+            Question::Group => 7,
+            Question::FrameOrder => 8,
+            Question::Load => 9,
+            Question::EnoughRows => 10,
+            Question::SlotMark => 11,
+            Question::SlotKind => 12,
+            Question::RowCount => 13,
+            Question::RowMark => 14,
+            Question::RowFields => 15,
+            Question::RowOrder => 16,
+            Question::Rest => 17,
+            Question::WindowLength => 18,
+            Question::Scenes => 19,
+            Question::WindowRows => 20,
+            Question::Twin => 21,
+            Question::Coverage => 22,
+            Question::GreatestLoad => 23,
+            Question::SlotError => 24,
+            Question::Width => 25,
+            Question::PairCount => 26,
+            Question::Other(other) => other.number,
+        }
     }
 }
 

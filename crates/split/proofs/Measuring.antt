@@ -119,7 +119,7 @@ module _ (kind : ℕ) {segments : Segments} {task : Task} (c : Counted segments 
 
   module _ (gaps : List ℕ) (gaps-at : (i : ℕ) → i ≤ segments.count → get_or gaps i 0 ≡ gap_below (segments_in segments) i) where
     -- the blocks' costs without groups, and the gaps that are held, are the segments' own
-    agree : Agree (cost_in kind segments) (gap_at gaps) (error_of kind (segments_in segments)) (gap_below (segments_in segments)) task.segments
+    pub agree : Agree (cost_in kind segments) (gap_at gaps) (error_of kind (segments_in segments)) (gap_below (segments_in segments)) task.segments
     unfolding gap_at
     agree =
         let all = c.all in

@@ -56,18 +56,28 @@ impl Work<'_> {
         self.share_out(&mut errors, cuts)
     }
 
-    // The reduction of more than 32 segments. It is not inlined: few segments would pay for touching the stack frame of many.
+    // The same in a stack frame of its own. It is not inlined: its caller's frame would be that of the most places, whatever the number of
+    // segments, and a call would need, and touch, the stack of 255 segments for 33.
     #[inline(never)]
+    fn apart<const PLACES: usize>(&self, cuts: &mut [u8; 64]) -> Option<Reduction>
+        requires ready { Ready self.now }
+        requires room { (row_start (self.now.task.segments + 1) ≤ PLACES) × (PLACES ≤ PLACES_255) }
+        ensures { Shares self.now result cuts.old cuts.new }
+    {
+        self.within::<PLACES>(cuts)
+    }
+
+    // The reduction of more than 32 segments, for which each class has a stack frame of its own.
     fn large(&self, cuts: &mut [u8; 64]) -> Option<Reduction>
         requires { Ready self.now }
         ensures { Shares self.now result cuts.old cuts.new }
     {
         if self.task.segments <= 64 {
-            self.within::<PLACES_64>(cuts)
+            self.apart::<PLACES_64>(cuts)
         } else if self.task.segments <= 128 {
-            self.within::<PLACES_128>(cuts)
+            self.apart::<PLACES_128>(cuts)
         } else {
-            self.within::<PLACES_255>(cuts)
+            self.apart::<PLACES_255>(cuts)
         }
     }
 }

@@ -87,7 +87,7 @@ module _ (a b : ℕ) (h : ℕ → Own) (i count : ℕ) (lt : i < count) where
       ap (λ (l : List ℕ). length l) loads_left
       ∙ cases (held a b (h i)) (λ e. rw e (omega arith)) (λ e. rw e (omega arith))
 
-  fold_left : (op : ℕ → ℕ → ℕ) (start : ℕ) → ((l : List ℕ) → op start (foldr op start l) ≡ foldr op start l)
+  pub fold_left : (op : ℕ → ℕ → ℕ) (start : ℕ) → ((l : List ℕ) → op start (foldr op start l) ≡ foldr op start l)
       → foldr op start (loads_at a b (list_from i (count - i) h))
       ≡ op (cond (held a b (h i)) (h i).load start) (foldr op start (loads_at a b (list_from (suc i) (count - suc i) h)))
   fold_left op start unit =
@@ -102,11 +102,11 @@ module _ (a b : ℕ) (h : ℕ → Own) (i count : ℕ) (lt : i < count) where
 sum_start : (l : List ℕ) → 0 + foldr ◌+◌ 0 l ≡ foldr ◌+◌ 0 l
 sum_start l = omega arith
 
-least_start : (l : List ℕ) → min 65535 (foldr min 65535 l) ≡ foldr min 65535 l
+pub least_start : (l : List ℕ) → min 65535 (foldr min 65535 l) ≡ foldr min 65535 l
 least_start [] = omega arith
 least_start (x ∷ l) = omega (arith, least_start l)
 
-greatest_start : (l : List ℕ) → max 0 (foldr max 0 l) ≡ foldr max 0 l
+pub greatest_start : (l : List ℕ) → max 0 (foldr max 0 l) ≡ foldr max 0 l
 greatest_start l = omega arith
 
 -- ---- a fold

@@ -4,7 +4,7 @@
 // `out` and `at` are no struct: the clauses speak of the buffer before and after a call. No `From` leads from a count to 64 bits.
 #![tactic(auto)]
 
-ghost use Rattle.std.specs.Prelude.{◌≤◌, ◌≡◌, [], ◌∷◌, map, length, take};
+ghost use Rattle.std.specs.Prelude.{◌≤◌, ◌≡◌, ◌++◌, [], ◌∷◌, map, length, take};
 ghost use Rattle.model.specs.Calls.{number, query_case, row_span};
 ghost use Rattle.model.specs.Arrays.{rows_in};
 ghost use Rattle.text.specs.Text.{decimal, number_line, refusal_text, row_text, rows_text, answer_text};
@@ -44,6 +44,15 @@ pub fn put_number(out: &mut [u8], at: usize, n: u64) -> usize
     let mut buffer = Buffer::new();
     let digits = buffer.format(n);
     put_bytes(out, at, digits.as_bytes())
+}
+
+// A number and the byte after it.
+pub fn put_field(out: &mut [u8], at: usize, n: u64, end: u8) -> usize
+    requires { Room out.old at (decimal n ++ (end ∷ [])) }
+    ensures { Put out.old at (decimal n ++ (end ∷ [])) out.new result }
+{
+    let next = put_number(out, at, n);
+    put_byte(out, next, end)
 }
 
 // A line of numbers.

@@ -153,7 +153,7 @@ unfoldable pub kept_so_far : List ℕ → ℕ → List ℕ
 kept_so_far log count = joined (record_part log) (firsts_of log count)
 
 -- the record with index i, or nothing
-unfoldable kept_of : List ℕ → ℕ → Bool → List ℕ
+unfoldable pub kept_of : List ℕ → ℕ → Bool → List ℕ
 kept_of log i chosen = cond chosen (record_part log i) []
 
 -- one record more, or none
@@ -207,7 +207,7 @@ module _ (log : List ℕ) (count : ℕ) (was buffer : List ℕ) (at : ℕ) (befo
       ∙ omega (arith, before.ended, before.few, length-drop at was)
 
   -- a record more, or none
-  written_more : 9 * count + 9 ≤ length log → (chosen : Bool) → chosen ≡ is_first log count → (next : ℕ) (after : List ℕ)
+  pub written_more : 9 * count + 9 ≤ length log → (chosen : Bool) → chosen ≡ is_first log count → (next : ℕ) (after : List ℕ)
       → next ≡ at + length (kept_of log count chosen)
       → after ≡ take at buffer ++ kept_of log count chosen ++ drop next buffer
       → Written log (count + 1) was after next

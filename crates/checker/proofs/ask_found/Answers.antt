@@ -7,7 +7,7 @@ use Rattle.model.specs.Log.{greatest_kind}
 use Rattle.model.specs.Questions.{ask, outcome}
 use Rattle.model.specs.Calls.{answer_case, number, kind_number}
 use Rattle.checker.specs.Found.{found_questions}
-use Rattle.checker.proofs.Asking.{asked_of}
+use Rattle.checker.proofs.Asking.{asked_of_kind}
 use Rattle.checker.proofs.ask_found.Goals as goal
 use Rattle.checker.proofs.ask_found.Goals.{Else-is_greatest-rows}
 
@@ -20,10 +20,10 @@ returns-in_default c = rw (c.no.ensures, c.in_default.is)
 pub returns-then-is_greatest-rows : goal.returns-then-is_greatest-rows
 unfolding answer_case number found_questions outcome ask
 returns-then-is_greatest-rows c =
-    rw (c.no-then-is_greatest-rows.ensures, c.in-Some.is, asked_of _ _ c.in-Some.rows.reaches c.is_greatest.ensures, c.if-is_greatest-rows.true)
+    rw (c.no-then-is_greatest-rows.ensures, c.in-Some.is, asked_of_kind _ _ c.in-Some.rows.reaches c.is_greatest.ensures, c.if-is_greatest-rows.true)
 
 reached : (c : Else-is_greatest-rows) → cond (eqb (kind_number c.args.kind) greatest_kind) c.in-Some.rows.reaches true ≡ true
-reached c = asked_of _ _ c.in-Some.rows.reaches c.is_greatest.ensures ∙ ap not c.if-is_greatest-rows.false
+reached c = asked_of_kind _ _ c.in-Some.rows.reaches c.is_greatest.ensures ∙ ap not c.if-is_greatest-rows.false
 
 -- 24
 pub returns-then-error-rows : goal.returns-then-error-rows
