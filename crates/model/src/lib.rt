@@ -274,8 +274,6 @@ impl Question {
 impl From<Question> for u8 {
     ghost from_gives = { λ question n. n ≡ number question };
 
-    // It is not inlined: each call of C would have a table of the cases of its own.
-    #[inline(never)]
     fn from(question: Question) -> u8 {
         // each case is the conversion itself
         match question {

@@ -46,7 +46,7 @@ pub fn put_number(out: &mut [u8], at: usize, n: u64) -> usize
     put_bytes(out, at, digits.as_bytes())
 }
 
-// A number and the byte after it.
+// A number and the byte after it, whichever. It stays public beside `put_line`, which ends with a line's end alone.
 pub fn put_field(out: &mut [u8], at: usize, n: u64, end: u8) -> usize
     requires { Room out.old at (decimal n ++ (end ∷ [])) }
     ensures { Put out.old at (decimal n ++ (end ∷ [])) out.new result }

@@ -36,10 +36,10 @@ slice_bounds-copy_from_slice-end c = let few = fits c in omega arith
 pub slice_bounds-copy_from_slice-end-2 : goal.slice_bounds-copy_from_slice-end-2
 slice_bounds-copy_from_slice-end-2 c =
     let few = fits (goal.at.slice_bounds-copy_from_slice-end-2 c).In_ok-reading in
-    sym (length-take-le c.in_ok-reading.reading.header.rows c.args.list.now (omega arith))
+    sym (length-take-le _ c.args.list.now (omega arith))
 
 pub shared_ref_as_front-copy_from_slice : goal.shared_ref_as_front-copy_from_slice
-shared_ref_as_front-copy_from_slice c = fits (goal.at.shared_ref_as_front-copy_from_slice c).In_ok-reading
+shared_ref_as_front-copy_from_slice c = let few = fits (goal.at.shared_ref_as_front-copy_from_slice c).In_ok-reading in omega (arith, few)
 
 pub returns : goal.returns
 unfolding answer_case header_in most_rows
